@@ -1,0 +1,6 @@
+pub mod Lump
+pub mod Text
+pub mod History
+pub mod Meaning
+pub mod World
+pub mod Report

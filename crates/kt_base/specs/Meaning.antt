@@ -1,0 +1,21 @@
+-- What one coroutine does, whatever language it is written in.
+use Rattle.std.specs.Prelude.{ℕ, List, length, Option, slice_get}
+use Rattle.kt_base.specs.declared.lumps.Lump.{Lump}
+use Rattle.kt_base.specs.declared.events.Event.{Event}
+use Rattle.kt_base.specs.declared.events.Answer.{Answer}
+use Rattle.kt_base.specs.declared.events.End.{End}
+use Rattle.kt_base.specs.declared.events.Start.{Start}
+
+-- what a coroutine does on the answers that it has: its events, up to the first that has no answer, and how it ended,
+-- which is absent exactly where there is such an event
+pub record Course : Type 0 where
+  pub events : List (Event Lump)
+  pub end : Option End
+
+-- the meaning of a program: what a coroutine does from its start, on its answers in order
+abbrev pub Program : Type 0
+Program = Start → List (Answer Lump) → Course
+
+-- the event that waits for an answer
+abbrev pub next_event : Program → Start → List (Answer Lump) → Option (Event Lump)
+next_event program start answers = slice_get (program start answers).events (length answers)
