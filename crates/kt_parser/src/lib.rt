@@ -1,0 +1,7 @@
+//! The parser.
+//!
+//! Today it reads the first subset of the language: programs that print numbers.
+#![tactic(auto)]
+
+pub mod first;
+
