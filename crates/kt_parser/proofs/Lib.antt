@@ -5,3 +5,5 @@ pub mod Tests
 pub mod Pieces
 pub mod Pieced
 pub mod Scanned
+pub mod Readers
+pub mod Expressions

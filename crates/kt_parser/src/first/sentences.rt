@@ -1,10 +1,9 @@
 //! The code of a list of tokens of the first subset.
 
-ghost use Rattle.std.specs.Prelude.{◌≡◌, ◌+◌, ◌≤◌, max, List, nat_le, Some, None, IfOk, if◌then◌else◌};
+ghost use Rattle.std.specs.Prelude.{◌≡◌, ◌+◌, ◌<◌, ◌≤◌, max, [], ◌∷◌, ◌++◌, IfOk, OnOk};
 ghost use Rattle.std.specs.Option.{option_map};
-ghost use Rattle.kt_parser.specs.Answers.{Answers, Reads};
+ghost use Rattle.kt_parser.specs.Answers.{Reads};
 ghost use Rattle.kt_parser.specs.Parsing as parsing;
-ghost use Rattle.kt_parser.specs.Programs.{is_separator};
 
 use crate::first::reading::FirstErr;
 use crate::first::words::Word;
@@ -19,8 +18,7 @@ pub fn sum<'t>(room: u32, words: &'t [Word], code: &mut Vec<Plain>) -> Result<(u
     let (mut levels, mut rest) = product(room, words, code)?;
     while let Some((operator, behind)) = sum_operator(rest) {
         let (right, behind) = product(room, behind, code)?;
-        levels = joined(room, levels, right)?;
-        code.push(operator)?;
+        levels = join(room, operator, levels, right, code)?;
         rest = behind;
     }
     Ok((levels, rest))
@@ -35,8 +33,7 @@ fn product<'t>(room: u32, words: &'t [Word], code: &mut Vec<Plain>) -> Result<(u
     let (mut levels, mut rest) = factor(room, words, code)?;
     while let Some((operator, behind)) = product_operator(rest) {
         let (right, behind) = factor(room, behind, code)?;
-        levels = joined(room, levels, right)?;
-        code.push(operator)?;
+        levels = join(room, operator, levels, right, code)?;
         rest = behind;
     }
     Ok((levels, rest))
@@ -67,18 +64,20 @@ fn factor<'t>(room: u32, words: &'t [Word], code: &mut Vec<Plain>) -> Result<(u3
     }
 }
 
-/// The levels of two operands under an operator, if there is room for them.
-fn joined(room: u32, left: u32, right: u32) -> Result<u32, FirstErr>
+/// Puts an operator behind the code of its operands, if there is room for its level, which it answers.
+fn join(room: u32, operator: Plain, left: u32, right: u32, code: &mut Vec<Plain>) -> Result<u32, FirstErr>
     requires left_fits { left ≤ room }
     requires right_fits { right ≤ room }
-    ensures { Answers (λ levels. levels) result (if nat_le (max left right + 1) room then Some (max left right + 1) else None) }
+    ensures levels { IfOk result (λ levels. (levels ≤ room) × (levels ≡ max left right + 1)) }
+    ensures code { OnOk result (code.new.items ≡ code.old.items ++ operator ∷ []) }
+    ensures no_room { result ≡ Err FirstErr.NotBuilt → room < max left right + 1 }
 {
     let most = left.max(right);
-    if most < room {
-        Ok(most + 1)
-    } else {
-        Err(FirstErr::NotBuilt)
+    if most >= room {
+        return Err(FirstErr::NotBuilt);
     }
+    code.push(operator)?;
+    Ok(most + 1)
 }
 
 /// The operator that the first token is in a sum, with the tokens behind it.
