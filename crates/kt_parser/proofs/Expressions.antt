@@ -1,5 +1,5 @@
 -- Sums are read, and nothing else is.
-use Rattle.std.proofs.Common.{◌≡◌, ℕ, zero, suc, ◌+◌, ◌<◌, ◌≤◌, max, List, [], ◌∷◌, ◌++◌, Option, None, Some, length, refl, sym, ap, subst, ◌∙◌, arith}
+use Rattle.std.proofs.Common.{◌≡◌, ◌≢◌, ℕ, zero, suc, ◌+◌, ◌-◌, ◌<◌, ◌≤◌, max, List, [], ◌∷◌, ◌++◌, Option, None, Some, length, refl, sym, ap, subst, ◌∙◌, arith}
 use Rattle.std.specs.Prelude.{option_and_then}
 use Rattle.std.specs.Option.{option_map}
 use Rattle.std.proofs.lemmas.List.{append_assoc}
@@ -9,7 +9,7 @@ use Rattle.kt_parser.specs.declared.first.words.Word.{Word}
 use Rattle.kt_parser.specs.declared.first.words.Word.TheVariants as word
 use Rattle.kt_parser.specs.Programs.{Expression, number, parentheses, sum, difference, product, expression_words, expression_code, levels, IsSum, IsProduct, IsFactor}
 use Rattle.kt_parser.specs.Loops.{loop}
-use Rattle.kt_parser.specs.Parsing.{Parsed, Reader, words_left, chain_turn, joined, sum_operator, product_operator, behind_close, enclosed, factor_with, nothing, chain, sum_at, inner_at, factor_at, product_at}
+use Rattle.kt_parser.specs.Parsing.{Parsed, Reader, words_left, chain_turn, joined, sum_operator, product_operator, behind_close, enclosed, behind_open, number_first, parentheses_with, parentheses_at, factor_with, nothing, chain, sum_at, inner_at, factor_at, product_at}
 use Rattle.kt_parser.proofs.Readers.{IsRead, Sound, Complete, Builds, read_as, chain_sound, Leads, operand_leads, operator_leads, leads_whole, chain_none, chain_starts, turn_stops, turn_fails, turn_goes, operand_shorter}
 
 mapped : {A B : Type 0} (f : A → B) (o : Option A) (b : B) → option_map f o ≡ Some b → (a : A) × ((o ≡ Some a) × (f a ≡ b))
@@ -67,7 +67,7 @@ inner_sound : (room : ℕ) (reader : Reader) → Sound IsSum room reader → Inn
 inner_sound room reader sound code words s e = (room, omega arith, sound code words s e)
 
 factor_sound : (room : ℕ) (reader : Reader) → InnerSound room reader → Sound IsFactor room (factor_with reader)
-unfolding factor_with
+unfolding factor_with parentheses_with
 factor_sound room reader inner code (word.Number n ∷ words) s e =
     let at : Parsed = record { code = code ++ plain.Push n ∷ []; levels = 0; rest = words } in
     let same : at ≡ s = cc in
@@ -121,7 +121,7 @@ InnerComplete room reader = (e : Expression) (code : List Plain) (rest : List Wo
     → reader code (expression_words e ++ word.CloseParen ∷ rest) ≡ Some (read_as code e (word.CloseParen ∷ rest))
 
 factor_complete : (room : ℕ) (reader : Reader) → InnerComplete room reader → Complete IsFactor any room (factor_with reader)
-unfolding factor_with
+unfolding factor_with parentheses_with
 factor_complete room reader inner (number n) code rest shape small follows = refl
 factor_complete room reader inner (parentheses a) code rest shape small follows =
     ap (λ ws. option_and_then enclosed (reader code ws)) (append_assoc (expression_words a) (word.CloseParen ∷ []) rest)
@@ -223,3 +223,38 @@ sums room = record {
   goes = turn_goes IsSum IsProduct sum_operator room (product_at room) sum_builds product_is_sum (product_at_sound room);
   shorter = operand_shorter IsSum IsProduct sum_operator room (product_at room) sum_builds product_is_sum (product_at_sound room)
 }
+
+-- the laws of a factor, for the code that reads it
+module _ (room : ℕ) (code : List Plain) (words : List Word) where
+  pub factor_is_number : (push : Plain) (rest : List Word) → number_first words ≡ Some (push, rest)
+      → factor_at room code words ≡ Some (record { code = code ++ push ∷ []; levels = 0; rest = rest })
+  unfolding factor_at factor_with
+  factor_is_number push rest is = rw is refl
+
+  pub factor_is_other : number_first words ≡ None → factor_at room code words ≡ parentheses_at room code words
+  unfolding factor_at factor_with parentheses_at
+  factor_is_other is = rw is refl
+
+  pub not_open : behind_open words ≡ None → parentheses_at room code words ≡ None
+  unfolding parentheses_at parentheses_with
+  not_open is = rw is refl
+
+  pub no_room : (within : List Word) → room ≡ 0 → behind_open words ≡ Some within → parentheses_at room code words ≡ None
+  unfolding parentheses_at parentheses_with inner_at
+  no_room within none is = rw (none, is) refl
+
+  opened : (within : List Word) (r : ℕ) (o : Option Parsed) → room ≡ suc r → behind_open words ≡ Some within → sum_at r code within ≡ o
+      → parentheses_at room code words ≡ option_and_then enclosed o
+  unfolding parentheses_at parentheses_with inner_at
+  opened within r o level is e = rw (level, is, e) refl
+
+  pub not_inside : (within : List Word) → room ≢ 0 → behind_open words ≡ Some within → sum_at (room - 1) code within ≡ None → parentheses_at room code words ≡ None
+  not_inside within some is none = opened within (room - 1) None (omega arith) is none
+
+  pub not_closed : (within : List Word) (s : Parsed) → room ≢ 0 → behind_open words ≡ Some within → sum_at (room - 1) code within ≡ Some s
+      → behind_close s.rest ≡ None → parentheses_at room code words ≡ None
+  not_closed within s some is inside none = opened within (room - 1) (Some s) (omega arith) is inside ∙ rw none refl
+
+  pub closed : (within rest : List Word) (s : Parsed) → room ≢ 0 → behind_open words ≡ Some within → sum_at (room - 1) code within ≡ Some s
+      → behind_close s.rest ≡ Some rest → parentheses_at room code words ≡ Some (record { code = s.code; levels = s.levels + 1; rest = rest })
+  closed within rest s some is inside close = opened within (room - 1) (Some s) (omega arith) is inside ∙ rw close refl

@@ -7,3 +7,4 @@ pub mod Pieced
 pub mod Scanned
 pub mod Readers
 pub mod Expressions
+pub mod Reading

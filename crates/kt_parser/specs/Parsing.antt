@@ -1,5 +1,5 @@
 -- How the code of a program is found, from the front of its tokens.
-use Rattle.std.specs.Prelude.{ℕ, zero, suc, ◌+◌, max, Bool, true, false, List, [], ◌∷◌, ◌++◌, Option, None, Some, option_and_then, length, nat_le, ℤ, if◌then◌else◌}
+use Rattle.std.specs.Prelude.{ℕ, zero, suc, ◌+◌, max, Bool, true, false, List, [], ◌∷◌, ◌++◌, Option, None, Some, option_and_then, length, nat_le, if◌then◌else◌}
 use Rattle.std.specs.Option.{option_map}
 use Rattle.std.specs.List.{list_all}
 use Rattle.kt_base.specs.declared.stack_code.Plain.{Plain}
@@ -64,11 +64,28 @@ chain operator room operand code words = option_and_then (loop words_left (chain
 abbrev pub enclosed : Parsed → Option Parsed
 enclosed s = option_map (λ rest. record { code = s.code; levels = s.levels + 1; rest = rest }) (behind_close s.rest)
 
+-- the push of a number that stands first, with the tokens behind it
+abbrev pub number_first : List Word → Option (Plain × List Word)
+number_first (word.Number n ∷ words) = Some (plain.Push n, words)
+number_first _ = None
+
+-- the tokens behind an opening parenthesis
+abbrev pub behind_open : List Word → Option (List Word)
+behind_open (word.OpenParen ∷ words) = Some words
+behind_open _ = None
+
+-- a sum in parentheses
+unfoldable pub parentheses_with : Reader → Reader
+parentheses_with inner code words = option_and_then (λ within. option_and_then enclosed (inner code within)) (behind_open words)
+
+-- a number, or what else is read
+abbrev pub number_or : Option (Plain × List Word) → List Plain → Option Parsed → Option Parsed
+number_or None code other = other
+number_or (Some found) code other = Some (record { code = code ++ found.0 ∷ []; levels = 0; rest = found.1 })
+
 -- a number, or a sum in parentheses
 unfoldable pub factor_with : Reader → Reader
-factor_with inner code (word.Number n ∷ words) = Some (record { code = code ++ plain.Push n ∷ []; levels = 0; rest = words })
-factor_with inner code (word.OpenParen ∷ words) = option_and_then enclosed (inner code words)
-factor_with inner code _ = None
+factor_with inner code words = number_or (number_first words) code (parentheses_with inner code words)
 
 abbrev pub nothing : Reader
 nothing code words = None
@@ -82,6 +99,9 @@ sum_at (suc room) = chain sum_operator (suc room) (chain product_operator (suc r
 unfoldable pub inner_at : ℕ → Reader
 inner_at zero = nothing
 inner_at (suc room) = sum_at room
+
+unfoldable pub parentheses_at : ℕ → Reader
+parentheses_at room = parentheses_with (inner_at room)
 
 unfoldable pub factor_at : ℕ → Reader
 factor_at room = factor_with (inner_at room)

@@ -45,22 +45,33 @@ fn factor<'t>(room: u32, words: &'t [Word], code: &mut Vec<Plain>) -> Result<(u3
     ensures reads { Reads result code.new.items (parsing.factor_at room code.old.items words.now) }
     ensures small { IfOk result (λ read. read.0 ≤ room) }
 {
-    match words {
-        [Word::Number(n), rest @ ..] => {
-            code.push(Plain::Push(*n))?;
+    match number_first(words) {
+        Some((push, rest)) => {
+            code.push(push)?;
             Ok((0, rest))
         }
-        [Word::OpenParen, rest @ ..] => {
+        None => parentheses(room, words, code),
+    }
+}
+
+/// A sum in parentheses.
+#[cycle(expression)]
+fn parentheses<'t>(room: u32, words: &'t [Word], code: &mut Vec<Plain>) -> Result<(u32, &'t [Word]), FirstErr>
+    ensures reads { Reads result code.new.items (parsing.parentheses_at room code.old.items words.now) }
+    ensures small { IfOk result (λ read. read.0 ≤ room) }
+{
+    match behind_open(words) {
+        Some(within) => {
             if room == 0 {
                 return Err(FirstErr::NotBuilt);
             }
-            let (levels, rest) = sum(room - 1, rest, code)?;
+            let (levels, rest) = sum(room - 1, within, code)?;
             match behind_close(rest) {
                 Some(rest) => Ok((levels + 1, rest)),
                 None => Err(FirstErr::NotBuilt),
             }
         }
-        _ => Err(FirstErr::NotBuilt),
+        None => Err(FirstErr::NotBuilt),
     }
 }
 
@@ -107,6 +118,26 @@ fn behind_close(words: &[Word]) -> Option<&[Word]>
 {
     match words {
         [Word::CloseParen, rest @ ..] => Some(rest),
+        _ => None,
+    }
+}
+
+/// The push of a number that stands first, with the tokens behind it.
+fn number_first(words: &[Word]) -> Option<(Plain, &[Word])>
+    ensures { option_map (λ found. (found.0, found.1.now)) result ≡ parsing.number_first words.now }
+{
+    match words {
+        [Word::Number(n), rest @ ..] => Some((Plain::Push(*n), rest)),
+        _ => None,
+    }
+}
+
+/// The tokens behind an opening parenthesis.
+fn behind_open(words: &[Word]) -> Option<&[Word]>
+    ensures { option_map (λ rest. rest.now) result ≡ parsing.behind_open words.now }
+{
+    match words {
+        [Word::OpenParen, rest @ ..] => Some(rest),
         _ => None,
     }
 }

@@ -4,13 +4,16 @@ use Rattle.kt_parser.specs.Parsing.{words_left, chain_turn, sum_operator, produc
 use Rattle.kt_parser.proofs.first.sentences.+expression.Given as goal
 
 abbrev pub decreases-sum : goal.decreases-sum
-decreases-sum l = 3 * l.room + 2
+decreases-sum l = 4 * l.room + 3
 
 abbrev pub decreases-product : goal.decreases-product
-decreases-product l = 3 * l.room + 1
+decreases-product l = 4 * l.room + 2
 
 abbrev pub decreases-factor : goal.decreases-factor
-decreases-factor l = 3 * l.room
+decreases-factor l = 4 * l.room + 1
+
+abbrev pub decreases-parentheses : goal.decreases-parentheses
+decreases-parentheses l = 4 * l.room
 
 abbrev pub invariant-sum-loop-operator : goal.invariant-sum-loop-operator
 invariant-sum-loop-operator l = record {
