@@ -8,3 +8,4 @@ pub mod Scanned
 pub mod Readers
 pub mod Expressions
 pub mod Reading
+pub mod Items

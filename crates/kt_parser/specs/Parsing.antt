@@ -1,12 +1,14 @@
 -- How the code of a program is found, from the front of its tokens.
-use Rattle.std.specs.Prelude.{ℕ, zero, suc, ◌+◌, max, Bool, true, false, List, [], ◌∷◌, ◌++◌, Option, None, Some, option_and_then, length, nat_le, if◌then◌else◌}
+use Rattle.std.specs.Prelude.{ℕ, zero, suc, ◌+◌, max, Bool, true, false, List, [], ◌∷◌, ◌++◌, Option, None, Some, option_and_then, length, nat_le, ◌&&◌, if◌then◌else◌}
 use Rattle.std.specs.Option.{option_map}
 use Rattle.std.specs.List.{list_all}
+use Rattle.std.specs.Str.{is_utf8}
 use Rattle.kt_base.specs.declared.stack_code.Plain.{Plain}
 use Rattle.kt_base.specs.declared.stack_code.Plain.TheVariants as plain
 use Rattle.kt_parser.specs.declared.first.words.Word.{Word}
 use Rattle.kt_parser.specs.declared.first.words.Word.TheVariants as word
 use Rattle.kt_parser.specs.Programs.{is_separator}
+use Rattle.kt_parser.specs.Scanning.{words_of}
 use Rattle.kt_parser.specs.Loops.{Turn, stop, go, fail, loop}
 
 -- the code so far, the levels of the expression that was read last, and the tokens that are left
@@ -118,39 +120,67 @@ pub record Body : Type 0 where
 abbrev pub body_left : Body → ℕ
 body_left s = length s.rest
 
+-- the tokens behind a separator
+abbrev pub behind_separator : List Word → Option (List Word)
+behind_separator (word.Semicolon ∷ words) = Some words
+behind_separator (word.LineEnd ∷ words) = Some words
+behind_separator _ = None
+
+-- the tokens behind the name `println`
+abbrev pub behind_println : List Word → Option (List Word)
+behind_println (word.Println ∷ words) = Some words
+behind_println _ = None
+
+-- a closing brace stands first
+abbrev pub at_brace : List Word → Bool
+at_brace (word.CloseBrace ∷ words) = true
+at_brace _ = false
+
 abbrev pub called : Parsed → Option Body
 called s = option_map (λ rest. record { code = s.code ++ plain.Print ∷ []; separated = false; rest = rest }) (behind_close s.rest)
+
+-- a call of `println`
+unfoldable pub call_at : List Plain → List Word → Option Body
+call_at code words = option_and_then (λ within. option_and_then called (sum_at 100 code within)) (option_and_then behind_open (behind_println words))
+
+abbrev pub separator_or : Option (List Word) → List Plain → Option Body → Option Body
+separator_or None code other = other
+separator_or (Some rest) code other = Some (record { code = code; separated = true; rest = rest })
+
+-- a separator, or a call behind one
+unfoldable pub item_at : Bool → List Plain → List Word → Option Body
+item_at separated code words = separator_or (behind_separator words) code (if separated then call_at code words else None)
 
 abbrev pub body_turned : Option Body → Turn Body
 body_turned None = fail
 body_turned (Some s) = go s
 
--- a call of `println`, whose name has been read
-unfoldable pub call_at : List Plain → List Word → Option Body
-call_at code (word.OpenParen ∷ words) = option_and_then called (sum_at 100 code words)
-call_at code _ = None
+-- one item more, up to the closing brace
+abbrev pub body_turn : Body → Turn Body
+body_turn s = if at_brace s.rest then stop else body_turned (item_at s.separated s.code s.rest)
 
--- one item more
-unfoldable pub body_turn : Body → Turn Body
-body_turn s = item_turn s s.rest
-  where
-    item_turn : Body → List Word → Turn Body
-    item_turn s (word.Semicolon ∷ words) = go (record { code = s.code; separated = true; rest = words })
-    item_turn s (word.LineEnd ∷ words) = go (record { code = s.code; separated = true; rest = words })
-    item_turn s (word.CloseBrace ∷ words) = stop
-    item_turn s (word.Println ∷ words) = if s.separated then body_turned (call_at s.code words) else fail
-    item_turn s _ = fail
+-- the items of a body
+unfoldable pub body_at : List Word → Option Body
+body_at words = loop body_left body_turn (record { code = []; separated = true; rest = words })
 
--- the code of a body whose closing brace stands first in the rest, if only separators stand behind it
+-- behind the closing brace stand only separators
+abbrev pub ends_program : List Word → Bool
+ends_program [] = false
+ends_program (brace ∷ words) = list_all is_separator words
+
+-- the tokens of the body and behind it
+abbrev pub behind_head : List Word → Option (List Word)
+behind_head (word.Fun ∷ word.Main ∷ word.OpenParen ∷ word.CloseParen ∷ word.OpenBrace ∷ words) = Some words
+behind_head _ = None
+
+-- the code of a program, if it ends behind its body
 abbrev pub finished : Body → Option (List Plain)
-finished s = if all_separators s.rest then Some s.code else None
-  where
-    all_separators : List Word → Bool
-    all_separators [] = false
-    all_separators (brace ∷ words) = list_all is_separator words
+finished s = if ends_program s.rest then Some s.code else None
 
 -- the code of a program
 unfoldable pub program_at : List Word → Option (List Plain)
-program_at (word.Fun ∷ word.Main ∷ word.OpenParen ∷ word.CloseParen ∷ word.OpenBrace ∷ words) =
-    option_and_then finished (loop body_left body_turn (record { code = []; separated = true; rest = words }))
-program_at _ = None
+program_at words = option_and_then (λ body. option_and_then finished (body_at body)) (behind_head words)
+
+-- the code of a text
+unfoldable pub first_of : List ℕ → Option (List Plain)
+first_of text = if nat_le (length text) 512 && is_utf8 text then option_and_then program_at (words_of text) else None

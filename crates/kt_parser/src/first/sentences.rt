@@ -1,4 +1,4 @@
-//! The code of a list of tokens of the first subset.
+//! Sums, products and factors of the first subset.
 
 ghost use Rattle.std.specs.Prelude.{◌≡◌, ◌+◌, ◌<◌, ◌≤◌, max, [], ◌∷◌, ◌++◌, IfOk, OnOk};
 ghost use Rattle.std.specs.Option.{option_map};
@@ -113,7 +113,7 @@ fn product_operator(words: &[Word]) -> Option<(Plain, &[Word])>
 }
 
 /// The tokens behind a closing parenthesis.
-fn behind_close(words: &[Word]) -> Option<&[Word]>
+pub fn behind_close(words: &[Word]) -> Option<&[Word]>
     ensures { option_map (λ rest. rest.now) result ≡ parsing.behind_close words.now }
 {
     match words {
@@ -133,7 +133,7 @@ fn number_first(words: &[Word]) -> Option<(Plain, &[Word])>
 }
 
 /// The tokens behind an opening parenthesis.
-fn behind_open(words: &[Word]) -> Option<&[Word]>
+pub fn behind_open(words: &[Word]) -> Option<&[Word]>
     ensures { option_map (λ rest. rest.now) result ≡ parsing.behind_open words.now }
 {
     match words {
