@@ -109,7 +109,7 @@ item_sound_at separated code words s (Some rest) is e =
     subst (IsItem separated code words) same
     (record { item = separator found.0; fits = λ later are. (found.1, are); words_are = found.2; code_is = sym (append-nil code) })
 
-item_sound : (separated : Bool) (code : List Plain) (words : List Word) (s : Body) → item_at separated code words ≡ Some s → IsItem separated code words s
+pub item_sound : (separated : Bool) (code : List Plain) (words : List Word) (s : Body) → item_at separated code words ≡ Some s → IsItem separated code words s
 unfolding item_at
 item_sound separated code words s e = item_sound_at separated code words s (behind_separator words) refl e
 

@@ -9,3 +9,5 @@ pub mod Readers
 pub mod Expressions
 pub mod Reading
 pub mod Items
+pub mod Bodies
+pub mod Subset
