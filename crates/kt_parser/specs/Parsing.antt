@@ -181,6 +181,10 @@ finished s = if ends_program s.rest then Some s.code else None
 unfoldable pub program_at : List Word → Option (List Plain)
 program_at words = option_and_then (λ body. option_and_then finished (body_at body)) (behind_head words)
 
+-- the bytes are UTF-8, and at most 512
+abbrev pub may_be_first : List ℕ → Bool
+may_be_first text = nat_le (length text) 512 && is_utf8 text
+
 -- the code of a text
 unfoldable pub first_of : List ℕ → Option (List Plain)
-first_of text = if nat_le (length text) 512 && is_utf8 text then option_and_then program_at (words_of text) else None
+first_of text = if may_be_first text then option_and_then program_at (words_of text) else None

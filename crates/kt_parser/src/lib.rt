@@ -5,3 +5,5 @@
 
 pub mod first;
 
+
+pub use first::reading::{FirstErr, parse_first};
