@@ -72,7 +72,7 @@ completes_on words s t done e later tail are rest =
       items = whole.items;
       are = whole.are;
       words_are = whole.words_are;
-      code_is = ap (λ l. l ++ all_code later) read.code_is ∙ append_assoc s.code (item_code read.item) (all_code later) ∙ whole.code_is
+      code_is = ap (λ l. l ++ all_code later) read.code_is ∙ append_assoc s.code (item_code read.item) (all_code later) ∙ whole.code_is;
     }
 
 -- the body that is read: its items, and the tokens from the closing brace on

@@ -213,7 +213,7 @@ products room = record {
   stops = turn_stops IsProduct IsFactor product_operator room (factor_at room) product_builds factor_is_product (factor_at_sound room);
   fails = turn_fails IsProduct IsFactor product_operator room (factor_at room) product_builds factor_is_product (factor_at_sound room);
   goes = turn_goes IsProduct IsFactor product_operator room (factor_at room) product_builds factor_is_product (factor_at_sound room);
-  shorter = operand_shorter IsProduct IsFactor product_operator room (factor_at room) product_builds factor_is_product (factor_at_sound room)
+  shorter = operand_shorter IsProduct IsFactor product_operator room (factor_at room) product_builds factor_is_product (factor_at_sound room);
 }
 
 pub sums : (room : ℕ) → IsChain sum_operator room (product_at room)
@@ -221,7 +221,7 @@ sums room = record {
   stops = turn_stops IsSum IsProduct sum_operator room (product_at room) sum_builds product_is_sum (product_at_sound room);
   fails = turn_fails IsSum IsProduct sum_operator room (product_at room) sum_builds product_is_sum (product_at_sound room);
   goes = turn_goes IsSum IsProduct sum_operator room (product_at room) sum_builds product_is_sum (product_at_sound room);
-  shorter = operand_shorter IsSum IsProduct sum_operator room (product_at room) sum_builds product_is_sum (product_at_sound room)
+  shorter = operand_shorter IsSum IsProduct sum_operator room (product_at room) sum_builds product_is_sum (product_at_sound room);
 }
 
 -- the laws of a factor, for the code that reads it

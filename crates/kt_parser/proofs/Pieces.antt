@@ -155,11 +155,11 @@ HasSpelling o = IfSome o (λ word. IsSpelledBy word (spelling word))
 
 fixed : (first : ℕ) → HasSpelling (word_from first)
 fixed first =
-    at HasSpelling (first == 102) _ _ (λ _. refl) (λ _. at HasSpelling (first == 109) _ _ (λ _. refl) (λ _. 
-    at HasSpelling (first == 112) _ _ (λ _. refl) (λ _. at HasSpelling (first == 40) _ _ (λ _. refl) (λ _. 
-    at HasSpelling (first == 41) _ _ (λ _. refl) (λ _. at HasSpelling (first == 123) _ _ (λ _. refl) (λ _. 
-    at HasSpelling (first == 125) _ _ (λ _. refl) (λ _. at HasSpelling (first == 43) _ _ (λ _. refl) (λ _. 
-    at HasSpelling (first == 45) _ _ (λ _. refl) (λ _. at HasSpelling (first == 42) _ _ (λ _. refl) (λ _. 
+    at HasSpelling (first == 102) _ _ (λ _. refl) (λ _. at HasSpelling (first == 109) _ _ (λ _. refl) (λ _.
+    at HasSpelling (first == 112) _ _ (λ _. refl) (λ _. at HasSpelling (first == 40) _ _ (λ _. refl) (λ _.
+    at HasSpelling (first == 41) _ _ (λ _. refl) (λ _. at HasSpelling (first == 123) _ _ (λ _. refl) (λ _.
+    at HasSpelling (first == 125) _ _ (λ _. refl) (λ _. at HasSpelling (first == 43) _ _ (λ _. refl) (λ _.
+    at HasSpelling (first == 45) _ _ (λ _. refl) (λ _. at HasSpelling (first == 42) _ _ (λ _. refl) (λ _.
     at HasSpelling (first == 59) _ _ (λ _. refl) (λ _. tt)))))))))))
 
 some_word_found : (o : Option Word) (bytes : List ℕ) → HasSpelling o → IsFound bytes (some_word_at o bytes)

@@ -92,14 +92,13 @@ joined_reads {room = room} code words s t right o left b r e =
       words_are = left.words_are ∙ ap (λ l. expression_words left.tree ++ l) (b.words_are ∙ ap (λ l. b.sign ∷ l) r.words_are)
           ∙ sym (append_assoc (expression_words left.tree) (b.sign ∷ expression_words r.tree) right.rest)
           ∙ (λ i. sym (b.spelled left.tree r.tree) i ++ rest_is i);
-      is = sym same.1 ∙ (λ i. record { code = coded i; levels = raised i; rest = rest_is i })
+      is = sym same.1 ∙ (λ i. record { code = coded i; levels = raised i; rest = rest_is i });
     }
 
 module _ (P Q : Expression → Type 0) (operator : List Word → Option (Plain × List Word)) (room : ℕ) (operand : Reader)
     (builds : (words : List Word) (o : Plain × List Word) → operator words ≡ Some o → Builds P Q words o)
     (weaker : (e : Expression) → Q e → P e)
     (sound : Sound Q room operand) where
-
   abbrev turn : Parsed → Turn Parsed
   turn = chain_turn operator room operand
 

@@ -75,8 +75,8 @@ completes_on text s t done e =
     let f = next.0 in
     let found : IsFound s.rest (Some f) = subst (IsFound s.rest) next.1 (piece_found s.rest) in
     let at : Completes text (with_piece s f.0 f.1) = λ more spells.
-        let all = done (seen s.brackets f.0 ++ more) (goes_on found.1 spells found.2 refl) in
-        subst (Spells [] text) (sym (append_assoc s.words (seen s.brackets f.0) more)) all in
+    let all = done (seen s.brackets f.0 ++ more) (goes_on found.1 spells found.2 refl) in
+    subst (Spells [] text) (sym (append_assoc s.words (seen s.brackets f.0) more)) all in
     subst (Completes text) (sym next.2) at
 
 abbrev Ended : List ℕ → Scan → Type 0

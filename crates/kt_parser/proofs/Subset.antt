@@ -47,10 +47,12 @@ program_sound words code e =
     let items = body_sound begun.0 body.0 body.1.0 in
     let end = ended (ends_program body.0.rest) body.0.code code body.1.1 in
     let brace = brace_first body.0.rest items.4 end.0 in
-    let p : Program = record { items = items.0; behind = brace.0 } in
-    (p, (items.1, brace.2),
-    head words begun.0 begun.1.0 ∙ ap (λ l. word.Fun ∷ word.Main ∷ word.OpenParen ∷ word.CloseParen ∷ word.OpenBrace ∷ l) (items.2 ∙ ap (λ l. all_words items.0 ++ l) brace.1),
-    sym end.1 ∙ items.3)
+    let p : Program = record { items = items.0; behind = brace.0 } in (
+      p,
+      (items.1, brace.2),
+      head words begun.0 begun.1.0 ∙ ap (λ l. word.Fun ∷ word.Main ∷ word.OpenParen ∷ word.CloseParen ∷ word.OpenBrace ∷ l) (items.2 ∙ ap (λ l. all_words items.0 ++ l) brace.1),
+      sym end.1 ∙ items.3,
+    )
 
 pub program_again : (p : Program) → IsProgram p → program_at (program_words p) ≡ Some (code_of p)
 unfolding program_at

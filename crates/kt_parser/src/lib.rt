@@ -5,5 +5,4 @@
 
 pub mod first;
 
-
 pub use first::reading::{FirstErr, parse_first};

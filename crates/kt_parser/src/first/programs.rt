@@ -50,7 +50,11 @@ fn body<'t>(words: &'t [Word], code: &mut Vec<Plain>) -> Result<&'t [Word], Firs
 }
 
 /// A separator, or a call behind one: whether a call may follow, and the tokens behind.
-fn item<'t>(separated: bool, words: &'t [Word], code: &mut Vec<Plain>) -> Result<(bool, &'t [Word]), FirstErr>
+fn item<'t>(
+    separated: bool,
+    words: &'t [Word],
+    code: &mut Vec<Plain>,
+) -> Result<(bool, &'t [Word]), FirstErr>
     ensures { ReadsItem result code.new.items (parsing.item_at separated code.old.items words.now) }
 {
     match behind_separator(words) {
@@ -129,7 +133,14 @@ fn behind_head(words: &[Word]) -> Option<&[Word]>
     ensures { option_map (λ rest. rest.now) result ≡ parsing.behind_head words.now }
 {
     match words {
-        [Word::Fun, Word::Main, Word::OpenParen, Word::CloseParen, Word::OpenBrace, rest @ ..] => Some(rest),
+        [
+            Word::Fun,
+            Word::Main,
+            Word::OpenParen,
+            Word::CloseParen,
+            Word::OpenBrace,
+            rest @ ..,
+        ] => Some(rest),
         _ => None,
     }
 }

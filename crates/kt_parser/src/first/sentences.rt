@@ -11,7 +11,11 @@ use kt_base::Plain;
 
 /// A sum of at most so many levels: its levels, and the tokens behind it. Its code goes to the end of `code`.
 #[cycle(expression)]
-pub fn sum<'t>(room: u32, words: &'t [Word], code: &mut Vec<Plain>) -> Result<(u32, &'t [Word]), FirstErr>
+pub fn sum<'t>(
+    room: u32,
+    words: &'t [Word],
+    code: &mut Vec<Plain>,
+) -> Result<(u32, &'t [Word]), FirstErr>
     ensures reads { Reads result code.new.items (parsing.sum_at room code.old.items words.now) }
     ensures small { IfOk result (λ read. read.0 ≤ room) }
 {
@@ -26,7 +30,11 @@ pub fn sum<'t>(room: u32, words: &'t [Word], code: &mut Vec<Plain>) -> Result<(u
 
 /// A product of at most so many levels.
 #[cycle(expression)]
-fn product<'t>(room: u32, words: &'t [Word], code: &mut Vec<Plain>) -> Result<(u32, &'t [Word]), FirstErr>
+fn product<'t>(
+    room: u32,
+    words: &'t [Word],
+    code: &mut Vec<Plain>,
+) -> Result<(u32, &'t [Word]), FirstErr>
     ensures reads { Reads result code.new.items (parsing.product_at room code.old.items words.now) }
     ensures small { IfOk result (λ read. read.0 ≤ room) }
 {
@@ -41,7 +49,11 @@ fn product<'t>(room: u32, words: &'t [Word], code: &mut Vec<Plain>) -> Result<(u
 
 /// A number, or a sum in parentheses.
 #[cycle(expression)]
-fn factor<'t>(room: u32, words: &'t [Word], code: &mut Vec<Plain>) -> Result<(u32, &'t [Word]), FirstErr>
+fn factor<'t>(
+    room: u32,
+    words: &'t [Word],
+    code: &mut Vec<Plain>,
+) -> Result<(u32, &'t [Word]), FirstErr>
     ensures reads { Reads result code.new.items (parsing.factor_at room code.old.items words.now) }
     ensures small { IfOk result (λ read. read.0 ≤ room) }
 {
@@ -56,7 +68,11 @@ fn factor<'t>(room: u32, words: &'t [Word], code: &mut Vec<Plain>) -> Result<(u3
 
 /// A sum in parentheses.
 #[cycle(expression)]
-fn parentheses<'t>(room: u32, words: &'t [Word], code: &mut Vec<Plain>) -> Result<(u32, &'t [Word]), FirstErr>
+fn parentheses<'t>(
+    room: u32,
+    words: &'t [Word],
+    code: &mut Vec<Plain>,
+) -> Result<(u32, &'t [Word]), FirstErr>
     ensures reads { Reads result code.new.items (parsing.parentheses_at room code.old.items words.now) }
     ensures small { IfOk result (λ read. read.0 ≤ room) }
 {
@@ -76,7 +92,13 @@ fn parentheses<'t>(room: u32, words: &'t [Word], code: &mut Vec<Plain>) -> Resul
 }
 
 /// Puts an operator behind the code of its operands, if there is room for its level, which it answers.
-fn join(room: u32, operator: Plain, left: u32, right: u32, code: &mut Vec<Plain>) -> Result<u32, FirstErr>
+fn join(
+    room: u32,
+    operator: Plain,
+    left: u32,
+    right: u32,
+    code: &mut Vec<Plain>,
+) -> Result<u32, FirstErr>
     requires left_fits { left ≤ room }
     requires right_fits { right ≤ room }
     ensures levels { IfOk result (λ levels. (levels ≤ room) × (levels ≡ max left right + 1)) }

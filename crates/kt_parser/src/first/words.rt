@@ -60,7 +60,10 @@ pub fn is_longer(word: Word, next: u8) -> bool
 fn is_name_byte(byte: u8) -> bool
     ensures { result ≡ is_name_byte byte }
 {
-    is_digit(byte) || (b'A' <= byte && byte <= b'Z') || (b'a' <= byte && byte <= b'z') || byte == b'_'
+    is_digit(byte)
+        || (b'A' <= byte && byte <= b'Z')
+        || (b'a' <= byte && byte <= b'z')
+        || byte == b'_'
 }
 
 pub fn is_digit(byte: u8) -> bool

@@ -6,7 +6,7 @@ use Rattle.kt_parser.proofs.first.scanning.digit_count.Given as goal
 abbrev pub invariant-loop-count : goal.invariant-loop-count
 invariant-loop-count l = record {
   within : l.count ≤ length l.bytes;
-  same : l.count + prefix_len is_digit (drop l.count l.bytes) ≡ prefix_len is_digit l.bytes
+  same : l.count + prefix_len is_digit (drop l.count l.bytes) ≡ prefix_len is_digit l.bytes;
 }
 
 abbrev pub decreases-loop-count : goal.decreases-loop-count

@@ -15,7 +15,7 @@ product-returns-in_err-levels-clause-reads t c =
 pub product-loop-operator-init : goal.product-loop-operator-init
 product-loop-operator-init t c = record {
   same = sym (product_starts c.args.room c.args.code.now.items c.args.words.now _ c.in_ok-levels.ensures.reads);
-  small = c.in_ok-levels.ensures.small
+  small = c.in_ok-levels.ensures.small;
 }
 
 pub product-returns-in_err-right-clause-reads : goal.product-returns-in_err-right-clause-reads
@@ -38,11 +38,11 @@ product-loop-operator-preserved t c =
     let levels = c.in_ok-levels-2.ensures.levels in
     let next = level_goes (products c.args.room) _ _ _ c.in-Some.operator c.in-Some.behind.now (sym c.in-Some.ensures) _ c.in_ok-right.ensures.reads (omega (arith, levels.0, levels.1)) in
     let state : record { code = c.join.new.code.items; levels = c.in_ok-levels-2.levels; rest = c.in_ok-right.behind.now }
-        ≡ record { code = c.factor-in-Some.new.code.items ++ c.in-Some.operator ∷ []; levels = max c.loop-operator.levels c.in_ok-right.right + 1; rest = c.in_ok-right.behind.now } =
+    ≡ record { code = c.factor-in-Some.new.code.items ++ c.in-Some.operator ∷ []; levels = max c.loop-operator.levels c.in_ok-right.right + 1; rest = c.in_ok-right.behind.now } =
     λ i. record { code = c.in_ok-levels-2.ensures.code i; levels = levels.1 i; rest = c.in_ok-right.behind.now } in
     record {
       same = ap (loop words_left (chain_turn product_operator c.args.room (factor_at c.args.room))) state ∙ sym next ∙ c.loop-operator.invariant.same;
-      small = levels.0
+      small = levels.0;
     }
 
 pub product-returns-clause-reads : goal.product-returns-clause-reads
@@ -57,7 +57,7 @@ sum-returns-in_err-levels-clause-reads t c =
 pub sum-loop-operator-init : goal.sum-loop-operator-init
 sum-loop-operator-init t c = record {
   same = sym (sum_starts c.args.room c.args.code.now.items c.args.words.now _ c.in_ok-levels.ensures.reads);
-  small = c.in_ok-levels.ensures.small
+  small = c.in_ok-levels.ensures.small;
 }
 
 pub sum-returns-in_err-right-clause-reads : goal.sum-returns-in_err-right-clause-reads
@@ -80,11 +80,11 @@ sum-loop-operator-preserved t c =
     let levels = c.in_ok-levels-2.ensures.levels in
     let next = level_goes (sums c.args.room) _ _ _ c.in-Some.operator c.in-Some.behind.now (sym c.in-Some.ensures) _ c.in_ok-right.ensures.reads (omega (arith, levels.0, levels.1)) in
     let state : record { code = c.join.new.code.items; levels = c.in_ok-levels-2.levels; rest = c.in_ok-right.behind.now }
-        ≡ record { code = c.product-in-Some.new.code.items ++ c.in-Some.operator ∷ []; levels = max c.loop-operator.levels c.in_ok-right.right + 1; rest = c.in_ok-right.behind.now } =
+    ≡ record { code = c.product-in-Some.new.code.items ++ c.in-Some.operator ∷ []; levels = max c.loop-operator.levels c.in_ok-right.right + 1; rest = c.in_ok-right.behind.now } =
     λ i. record { code = c.in_ok-levels-2.ensures.code i; levels = levels.1 i; rest = c.in_ok-right.behind.now } in
     record {
       same = ap (loop words_left (chain_turn sum_operator c.args.room (product_at c.args.room))) state ∙ sym next ∙ c.loop-operator.invariant.same;
-      small = levels.0
+      small = levels.0;
     }
 
 pub sum-returns-clause-reads : goal.sum-returns-clause-reads

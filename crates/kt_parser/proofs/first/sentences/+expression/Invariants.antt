@@ -18,7 +18,7 @@ decreases-parentheses l = 4 * l.room
 abbrev pub invariant-sum-loop-operator : goal.invariant-sum-loop-operator
 invariant-sum-loop-operator l = record {
   same : loop words_left (chain_turn sum_operator l.room (product_at l.room)) (record { code = l.code.items; levels = l.levels; rest = l.rest }) ≡ sum_at l.room l.fn.code.items l.fn.words;
-  small : l.levels ≤ l.room
+  small : l.levels ≤ l.room;
 }
 
 abbrev pub decreases-sum-loop-operator : goal.decreases-sum-loop-operator
@@ -27,7 +27,7 @@ decreases-sum-loop-operator l = length l.rest
 abbrev pub invariant-product-loop-operator : goal.invariant-product-loop-operator
 invariant-product-loop-operator l = record {
   same : loop words_left (chain_turn product_operator l.room (factor_at l.room)) (record { code = l.code.items; levels = l.levels; rest = l.rest }) ≡ product_at l.room l.fn.code.items l.fn.words;
-  small : l.levels ≤ l.room
+  small : l.levels ≤ l.room;
 }
 
 abbrev pub decreases-product-loop-operator : goal.decreases-product-loop-operator
