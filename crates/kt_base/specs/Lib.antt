@@ -4,3 +4,4 @@ pub mod History
 pub mod Meaning
 pub mod World
 pub mod Report
+pub mod StackCode

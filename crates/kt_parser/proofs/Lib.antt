@@ -11,3 +11,4 @@ pub mod Reading
 pub mod Items
 pub mod Bodies
 pub mod Subset
+pub mod Printing

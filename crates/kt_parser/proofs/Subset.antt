@@ -76,7 +76,7 @@ first_sound text code e = when (nat_le (length text) 512 && is_utf8 text) refl e
         let spells = subst (Spells [] text) found.2 (words_spell text words.0 words.1.0) in
         (found.0, record { short = leb-true _ _ tests.0; shape = found.1; words = record { utf8 = IsUtf8-from_is_utf8 text tests.1; spells = spells } }, found.3)
 
-first_again : (text : List ℕ) (p : Program) → IsFirst text p → first_of text ≡ Some (code_of p)
+pub first_again : (text : List ℕ) (p : Program) → IsFirst text p → first_of text ≡ Some (code_of p)
 unfolding first_of
 first_again text p is =
     let short : nat_le (length text) 512 ≡ true = le-leb _ _ is.short in

@@ -5,3 +5,4 @@ pub mod Programs
 pub mod Scanning
 pub mod Texts
 pub mod Words
+pub mod Laws

@@ -1,0 +1,12 @@
+-- Laws of the programs of the first subset.
+use Rattle.std.specs.Prelude.{◌≡◌, ℕ, List}
+use Rattle.kt_base.specs.StackCode.{Prints}
+use Rattle.kt_parser.specs.Programs.{Program, values_of, code_of, IsFirst}
+
+-- the code of a program prints its values
+abbrev pub CodePrints : Type 0
+CodePrints = (p : Program) → Prints (code_of p) (values_of p)
+
+-- a text has one meaning
+abbrev pub OneMeaning : Type 0
+OneMeaning = (text : List ℕ) (p q : Program) → IsFirst text p → IsFirst text q → values_of p ≡ values_of q
