@@ -1,7 +1,11 @@
 -- The code of a program prints its values, and a text has one meaning.
-use Rattle.std.proofs.Common.{◌≡◌, ℕ, ℤ, List, [], ◌∷◌, ◌++◌, Option, Some, None, refl, sym, ap, ◌∙◌}
+use Rattle.std.proofs.Common.{◌≡◌, ℕ, ℤ, List, [], ◌∷◌, ◌++◌, Option, Some, None, Result, Ok, Err, refl, sym, ap, subst, ◌∙◌}
 use Rattle.std.proofs.lemmas.List.{append_assoc, append-nil}
-use Rattle.std.specs.Prelude.{option_and_then}
+use Rattle.std.specs.Prelude.{option_and_then, MatchResult, Vec}
+use Rattle.std.specs.declared.alloc.Global.{Global}
+use Rattle.std.specs.Result.{IfOk}
+use Rattle.kt_parser.specs.declared.first.reading.FirstErr.{FirstErr}
+use Rattle.kt_parser.specs.declared.first.reading.FirstErr.TheVariants.{NoMemory}
 use Rattle.std.specs.Int.{w32, int_wrapping_add, int_wrapping_sub, int_wrapping_mul}
 use Rattle.std.specs.List.{flat_map}
 use Rattle.kt_base.specs.declared.stack_code.Plain.{Plain}
@@ -9,7 +13,7 @@ use Rattle.kt_base.specs.declared.stack_code.Plain.TheVariants as plain
 use Rattle.kt_base.specs.StackCode.{Stacked, stepped, runs, nothing, Prints}
 use Rattle.kt_parser.specs.Programs.{Expression, number, parentheses, sum, difference, product, expression_code, value_of, Item, separator, call, item_code, item_values, Program, values_of, code_of, IsFirst}
 use Rattle.kt_parser.specs.Parsing.{first_of}
-use Rattle.kt_parser.specs.Laws.{CodePrints, OneMeaning}
+use Rattle.kt_parser.specs.Laws.{OneMeaning}
 use Rattle.kt_parser.proofs.Subset.{first_again}
 
 abbrev state : List ℤ → List ℤ → Stacked
@@ -51,7 +55,7 @@ prints_items (call e ∷ items) printed =
     ∙ prints_items items (printed ++ value_of e ∷ [])
     ∙ ap (λ l. Some (state [] l)) (append_assoc printed (value_of e ∷ []) (flat_map item_values items))
 
-pub code_prints : CodePrints
+pub code_prints : (p : Program) → Prints (code_of p) (values_of p)
 code_prints p = prints_items p.items []
 
 pub one_meaning : OneMeaning
@@ -61,3 +65,10 @@ one_meaning text p q isp isq =
     let states : Some (state [] (values_of p)) ≡ Some (state [] (values_of q)) = sym (code_prints p) ∙ ap (λ code. runs code nothing) same ∙ code_prints q in
     let ends : state [] (values_of p) ≡ state [] (values_of q) = cc in
     ap (λ (s : Stacked). s.printed) ends
+
+-- the code that was read prints the values of the program that the text is
+pub prints_values : (text : List ℕ) (r : Result (Vec Plain Global) FirstErr)
+    → ((p : Program) → IsFirst text p → MatchResult r (λ code. code.items ≡ code_of p) (λ e. e ≡ NoMemory))
+    → IfOk r (λ code. (p : Program) → IsFirst text p → Prints code.items (values_of p))
+prints_values text (Ok code) only = λ p is. subst (λ l. Prints l (values_of p)) (sym (only p is)) (code_prints p)
+prints_values text (Err e) only = tt

@@ -1,11 +1,6 @@
 -- Laws of the programs of the first subset.
 use Rattle.std.specs.Prelude.{◌≡◌, ℕ, List}
-use Rattle.kt_base.specs.StackCode.{Prints}
-use Rattle.kt_parser.specs.Programs.{Program, values_of, code_of, IsFirst}
-
--- the code of a program prints its values
-abbrev pub CodePrints : Type 0
-CodePrints = (p : Program) → Prints (code_of p) (values_of p)
+use Rattle.kt_parser.specs.Programs.{Program, values_of, IsFirst}
 
 -- a text has one meaning
 abbrev pub OneMeaning : Type 0

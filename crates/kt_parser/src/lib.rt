@@ -5,4 +5,5 @@
 
 pub mod first;
 
+pub use first::laws::one_meaning;
 pub use first::reading::{FirstErr, parse_first};

@@ -4,7 +4,8 @@ ghost use Rattle.std.specs.Prelude.{◌≡◌, IfOk, MatchResult};
 ghost use Rattle.std.specs.Str.{is_utf8};
 ghost use Rattle.kt_parser.specs.Answers.{Answers};
 ghost use Rattle.kt_parser.specs.Parsing.{first_of, may_be_first};
-ghost use Rattle.kt_parser.specs.Programs.{Program, IsFirst, code_of};
+ghost use Rattle.kt_base.specs.StackCode.{Prints};
+ghost use Rattle.kt_parser.specs.Programs.{Program, IsFirst, code_of, values_of};
 
 use crate::first::programs::program;
 use crate::first::tokens::words_of;
@@ -49,9 +50,9 @@ const MOST_BYTES: usize = 512;
 /// The code of a text: the operands first, then the operator, and behind each expression that it is printed.
 ///
 /// NotBuilt comes exactly where the text isn't in the first subset.
-#[tactic(auto, using(crate::proofs::Subset::code_is_read, crate::proofs::Subset::only_code))]
 pub fn parse_first(alloc: Global, text: &[u8]) -> Result<Vec<Plain>, FirstErr>
     ensures read { IfOk result (λ code. (p : Program) × IsFirst text.now p × (code.items ≡ code_of p)) }
+    ensures prints { IfOk result (λ code. (p : Program) → IsFirst text.now p → Prints code.items (values_of p)) }
     ensures only { (p : Program) → IsFirst text.now p → MatchResult result (λ code. code.items ≡ code_of p) (λ e. e ≡ FirstErr.NoMemory) }
 {
     code_of(alloc, text)
