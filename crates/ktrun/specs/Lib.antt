@@ -1,0 +1,4 @@
+pub mod Words
+pub mod FirstRuns
+pub mod Statuses
+pub mod Stops

@@ -1,0 +1,46 @@
+//! The statuses of the program, and the lines that they write.
+
+ghost use Rattle.std.specs.Prelude.{◌≡◌, ◌≤◌, OnOk, OnErr};
+ghost use Rattle.std.specs.Io.KnownBytes.{Appends};
+ghost use Rattle.kt_outside.specs.Faults.{Rose};
+ghost use Rattle.kt_outside.specs.Held.{AppendsPrefix};
+ghost use Rattle.ktrun.specs.Statuses.{status_line};
+
+use kt_outside::{Failed, Sink, write_all};
+
+/// All was written.
+pub const DONE: u8 = 0;
+
+/// The words ask for nothing that the program does.
+pub const USAGE: u8 = 2;
+
+/// Memory was refused.
+pub const NO_MEMORY: u8 = 6;
+
+/// A file can't be read.
+pub const READ_FAULT: u8 = 7;
+
+/// The output can't be written.
+pub const WRITE_FAULT: u8 = 8;
+
+/// The text isn't of the language that is built today.
+pub const NOT_BUILT: u8 = 11;
+
+/// Writes the line of a status, or answers that the stream failed when it had taken a prefix.
+pub fn write_line<E: Sink>(err: &mut E, status: u8, name: &str) -> Result<(), Failed>
+    ensures all { OnOk result (Appends (E.taken err.old) (E.taken err.new) (status_line status name.now)) }
+    ensures failed { OnErr result (Rose (E.faults err.old) (E.faults err.new)) }
+{
+    match status {
+        USAGE => write_all(err, b"ktrun: usage\n"),
+        NO_MEMORY => write_all(err, b"ktrun: out of memory\n"),
+        READ_FAULT => {
+            write_all(err, b"ktrun: cannot read ")?;
+            write_all(err, name.as_bytes())?;
+            write_all(err, b"\n")
+        }
+        WRITE_FAULT => write_all(err, b"ktrun: cannot write\n"),
+        NOT_BUILT => write_all(err, b"ktrun: not built yet\n"),
+        _ => Ok(()),
+    }
+}
