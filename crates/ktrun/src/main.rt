@@ -1,4 +1,4 @@
-// Runs a program.
+//! `ktrun` compiles and runs programs of a subset of Kotlin.
 #![tactic(auto)]
 
 mod machine;
@@ -7,5 +7,18 @@ mod running;
 mod statuses;
 mod words;
 
-fn main(rt: HostRuntime) {
+use kt_outside::{RealFiles, RealSink};
+use plain::plain_main;
+use std::env;
+use std::io;
+use std::process::ExitCode;
+
+fn main(rt: HostRuntime) -> io::Result<ExitCode> {
+    let alloc = rt.alloc();
+    let words = env::args(&rt)?.skip(1).collect::<Vec<String>>(alloc)?;
+    let mut files = RealFiles::new(rt.clone()?, alloc);
+    let mut out = RealSink::new(rt.stdout());
+    let mut err = RealSink::new(rt.stderr());
+    let outcome = plain_main(alloc, words.as_slice(), &mut files, &mut out, &mut err);
+    Ok(ExitCode::from(outcome.status))
 }
