@@ -2,3 +2,4 @@ pub mod Opcodes
 pub mod Table
 pub mod Spelling
 pub mod Reading
+pub mod Decoding

@@ -8,6 +8,7 @@ mod numbers;
 mod opcodes;
 mod reading;
 mod switches;
+mod targets;
 mod writing;
 
 pub use error::CodeErr;

@@ -66,6 +66,13 @@ fn pair_of_bytes(at: u32, first: u64, bytes: &[u8]) -> Result<((i32, u32), &[u8]
     Ok(((number.cast_signed(), target), rest))
 }
 
+/// The least place of the next number.
+fn place_behind(pair: &(i32, u32)) -> u64
+    ensures { result ≡ from_least (pair_of pair.now).0 + 1 }
+{
+    place_of(pair.0.cast_unsigned()) + 1
+}
+
 fn pairs_of(alloc: Global, at: u32, count: u32, bytes: &[u8]) -> Result<(Vec<(i32, u32)>, &[u8]), Fault>
     ensures { Gives (λ x. (map pair_of x.0.items, x.1.now)) result (pairs_at at count 0 bytes.now) }
 {
@@ -74,7 +81,7 @@ fn pairs_of(alloc: Global, at: u32, count: u32, bytes: &[u8]) -> Result<(Vec<(i3
     let mut first = 0u64;
     for _ in 0..count {
         let (pair, after) = pair_of_bytes(at, first, rest)?;
-        first = place_of(pair.0.cast_unsigned()) + 1;
+        first = place_behind(&pair);
         pairs.push(pair)?;
         rest = after;
     }

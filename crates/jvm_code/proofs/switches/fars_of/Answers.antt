@@ -5,7 +5,8 @@ use Rattle.jvm_code.proofs.switches.fars_of.Goals as goal
 
 pub returns-in_err-target : goal.returns-in_err-target
 returns-in_err-target c =
-    targets_end c.in_err-target.field-0 c.loop.targets.items c.args.at c.args.count c.loop.counter c.loop.rest.now (fars_at c.args.at c.args.count c.args.bytes.now) c.loop-test.true c.in_err-target.ensures c.loop.invariant
+    let p = err_from_is_err_and c.from_residual.result c.from_residual.ensures.1 in
+    rw (p.1, p.2) (targets_end c.in_err-target.field-0.0 c.loop.targets.items c.args.at c.args.count c.loop.counter c.loop.rest.now (fars_at c.args.at c.args.count c.args.bytes.now) c.loop-test.true c.in_err-target.ensures c.loop.invariant)
 
 pub loop-preserved : goal.loop-preserved
 loop-preserved c =
