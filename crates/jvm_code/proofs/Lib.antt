@@ -1,2 +1,4 @@
 pub mod Writes
 pub mod Loops
+pub mod Starts
+pub mod Passes
