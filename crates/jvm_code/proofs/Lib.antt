@@ -2,3 +2,9 @@ pub mod Writes
 pub mod Loops
 pub mod Starts
 pub mod Passes
+pub mod Fields
+pub mod Distances
+pub mod Shapes
+pub mod Instructions
+pub mod Lists
+pub mod Theorem

@@ -3,3 +3,4 @@ pub mod Table
 pub mod Spelling
 pub mod Reading
 pub mod Decoding
+pub mod Reach

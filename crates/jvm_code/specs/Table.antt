@@ -2,6 +2,8 @@
 use Rattle.std.specs.Prelude.{ℕ, ℤ, List, map, Option, Some, None, ◌==◌, if◌then◌else◌}
 use Rattle.std.specs.Int.{w8, w16, w32, cast_unsigned}
 use Rattle.jvm_code.specs.Opcodes.{int_constant_code, int_constant_of, long_constant_code, long_constant_of, load_op_code, load_op_of, fixed_load_code, fixed_load_of, array_load_code, array_load_of, store_op_code, store_op_of, fixed_store_code, fixed_store_of, array_store_code, array_store_of, stack_op_code, stack_op_of, arithmetic_code, arithmetic_of, division_code, division_of, negation_code, negation_of, shift_code, shift_of, bitwise_code, bitwise_of, conversion_code, conversion_of, zero_test_code, zero_test_of, int_test_code, int_test_of, reference_test_code, reference_test_of, return_op_code, return_op_of, field_op_code, field_op_of, invoke_op_code, invoke_op_of, null_test_code, null_test_of}
+use Rattle.jvm_code.specs.declared.opcodes.LoadOp.{LoadOp}
+use Rattle.jvm_code.specs.declared.opcodes.StoreOp.{StoreOp}
 use Rattle.jvm_code.specs.declared.instr.TableSwitch.{TableSwitch}
 use Rattle.jvm_code.specs.declared.instr.LookupSwitch.{LookupSwitch}
 use Rattle.jvm_code.specs.declared.instr.Instr.{Instr}
@@ -163,9 +165,11 @@ pub data WideShape : Type 0 where
   IsLocal : WideShape
   IsAmount : WideShape
 
--- the opcodes that have a wide form
+abbrev pub local_shape : Option LoadOp → Option StoreOp → Option WideShape
+local_shape (Some load) store = Some IsLocal
+local_shape None (Some store) = Some IsLocal
+local_shape None None = None
+
+-- the operands of a wide form, where the opcode behind it has one
 unfoldable pub wide_shape : ℕ → Option WideShape
-wide_shape c =
-    if c == 0x84 then Some IsAmount else
-    elim (load_op_of c) [ Some op ↦ Some IsLocal | None ↦
-    elim (store_op_of c) [ Some op ↦ Some IsLocal | None ↦ None ] ]
+wide_shape c = if c == 0x84 then Some IsAmount else local_shape (load_op_of c) (store_op_of c)

@@ -1,6 +1,7 @@
 //! JVM instructions and their bytes, both ways (JVMS SE 8 §4.9, §6.5).
 #![tactic(auto)]
 
+mod decoding;
 mod error;
 mod fault;
 mod instr;
