@@ -1,13 +1,14 @@
 -- Bytes and code, both ways.
-use Rattle.std.proofs.Common.{◌≡◌, ℕ, ◌+◌, ◌-◌, ◌^◌, ◌<◌, ◌≤◌, Bool, true, false, cond, ltb, ◌&&◌, List, [], ◌∷◌, ◌++◌, length, Option, Some, None, Result, Ok, Err, refl, sym, ap, subst, ◌∙◌, arith, true≢false}
+use Rattle.std.proofs.Common.{◌≡◌, ℕ, zero, suc, ◌+◌, ◌-◌, ◌^◌, ◌<◌, ◌≤◌, Bool, true, false, cond, ltb, ◌&&◌, List, [], ◌∷◌, ◌++◌, length, Option, Some, None, Result, Ok, Err, refl, sym, ap, subst, ◌∙◌, arith, true≢false}
 use Rattle.std.specs.Prelude.{IfOk}
 use Rattle.std.specs.Global.{Vec}
-use Rattle.std.specs.List.{list_any, list_all, AllByRecursion}
+use Rattle.std.specs.List.{list_any, list_all, AllByRecursion, slice_index}
+use Rattle.std.specs.List.Sorted.{IsStrictlyIncreasing}
 use Rattle.std.proofs.lemmas.Bool.{and_parts, ltb-true}
 use Rattle.jvm_code.specs.declared.error.CodeErr.{CodeErr}
 use Rattle.jvm_code.specs.declared.instr.Instr.{Instr}
 use Rattle.jvm_code.specs.Table.{Operands, Nothing, Byte, Half, LocalAmount, Near, Far, Called, Ints, Table, Lookup, Wide, WideAmount, Row}
-use Rattle.jvm_code.specs.Spelling.{Follows, spelling}
+use Rattle.jvm_code.specs.Spelling.{row_bytes, Follows, spelling}
 use Rattle.jvm_code.specs.Reach.{Reaches, IsWithin}
 use Rattle.jvm_code.specs.Decoding.{Decodes, rows, rows_at, stands, aims, first_bad, starts_of, judged, with_targets, decode_of, IsLaid}
 use Rattle.jvm_code.proofs.Fields.{IsBytes}
@@ -90,3 +91,14 @@ is_found bytes (Ok v) lt fits given = decode_takes bytes (rows v.items) lt fits 
 is_found bytes (Err e) lt fits given = tt
 
 -- offsets that follow sizes ascend
+pub follows_ascend : (at : ℕ) (c : List (ℕ × Row)) → Follows at c → IsStrictlyIncreasing (starts_of c)
+follows_ascend at [] h k lt = absurd (omega arith)
+follows_ascend at (i ∷ []) h k lt = absurd (omega arith)
+follows_ascend at (i ∷ j ∷ is) h zero lt = omega (arith, h.0, h.2.0)
+follows_ascend at (i ∷ j ∷ is) h (suc k) lt =
+    let e : suc k + 1 ≡ suc (k + 1) = omega arith in
+    subst (λ (n : ℕ). slice_index (starts_of (i ∷ j ∷ is)) (suc k) < slice_index (starts_of (i ∷ j ∷ is)) n) (sym e) (follows_ascend (at + length (row_bytes at i.1)) (j ∷ is) h.2 k (omega arith))
+
+-- what the first pass gives ascends
+pub read_ascends : (bytes : List ℕ) (c : List (ℕ × Row)) → length bytes < 2 ^ 32 → IsBytes bytes → rows_at (length bytes) (length bytes) bytes ≡ Ok c → IsStrictlyIncreasing (starts_of c)
+read_ascends bytes c lt fits e = follows_ascend (length bytes - length bytes) c (code_takes (length bytes) (length bytes) bytes c lt (omega arith) (omega arith) fits e).0

@@ -4,3 +4,4 @@ pub mod Spelling
 pub mod Reading
 pub mod Decoding
 pub mod Reach
+pub mod Refusals

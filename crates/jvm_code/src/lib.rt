@@ -12,6 +12,7 @@ mod switches;
 mod targets;
 mod writing;
 
+pub use decoding::decode;
 pub use error::CodeErr;
 pub use instr::{Instr, LookupSwitch, TableSwitch};
 pub use opcodes::{
