@@ -8,3 +8,5 @@ pub mod Shapes
 pub mod Instructions
 pub mod Lists
 pub mod Theorem
+pub mod Steady
+pub mod Whys
