@@ -10,3 +10,5 @@ pub mod Lists
 pub mod Theorem
 pub mod Steady
 pub mod Whys
+pub mod Rows
+pub mod Sizes

@@ -102,3 +102,11 @@ follows_ascend at (i ∷ j ∷ is) h (suc k) lt =
 -- what the first pass gives ascends
 pub read_ascends : (bytes : List ℕ) (c : List (ℕ × Row)) → length bytes < 2 ^ 32 → IsBytes bytes → rows_at (length bytes) (length bytes) bytes ≡ Ok c → IsStrictlyIncreasing (starts_of c)
 read_ascends bytes c lt fits e = follows_ascend (length bytes - length bytes) c (code_takes (length bytes) (length bytes) bytes c lt (omega arith) (omega arith) fits e).0
+
+-- two lists with one spelling are one list
+pub one_list : (c d : List (ℕ × Row)) → IsLaid c → IsLaid d → length (spelling c) < 2 ^ 32 → spelling c ≡ spelling d → c ≡ d
+one_list c d lc ld short same =
+    let short-d : length (spelling d) < 2 ^ 32 = omega (arith, ap length same) in
+    let read-c = decode_again c short lc in
+    let read-d = decode_again d short-d ld in
+    cc (read-c, read-d, ap decode_of same)

@@ -5,3 +5,4 @@ pub mod Reading
 pub mod Decoding
 pub mod Reach
 pub mod Refusals
+pub mod Widths

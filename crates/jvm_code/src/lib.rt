@@ -2,9 +2,12 @@
 #![tactic(auto)]
 
 mod decoding;
+mod encoding;
 mod error;
 mod fault;
 mod instr;
+mod laws;
+mod layout;
 mod numbers;
 mod opcodes;
 mod reading;
@@ -13,8 +16,11 @@ mod targets;
 mod writing;
 
 pub use decoding::decode;
+pub use encoding::encode;
 pub use error::CodeErr;
 pub use instr::{Instr, LookupSwitch, TableSwitch};
+pub use layout::laid;
+pub use laws::{decoded_is_encoded, encoded_is_decoded, spelling_has_one_list};
 pub use opcodes::{
     Arithmetic, ArrayLoad, ArrayStore, Bitwise, Conversion, Division, FieldOp, FixedLoad, FixedStore, IntConstant,
     IntTest, InvokeOp, LoadOp, LongConstant, Negation, NullTest, ReferenceTest, ReturnOp, Shift, StackOp, StoreOp,

@@ -48,7 +48,7 @@ pub fn table_switch_of(alloc: Global, at: u32, bytes: &[u8]) -> Result<(TableSwi
 }
 
 /// A number's place among the signed ones, from the least.
-fn place_of(number: u32) -> u64
+pub fn place_of(number: u32) -> u64
     ensures { result ≡ from_least number }
 {
     number.wrapping_add(2147483648) as u64
@@ -67,7 +67,7 @@ fn pair_of_bytes(at: u32, first: u64, bytes: &[u8]) -> Result<((i32, u32), &[u8]
 }
 
 /// The least place of the next number.
-fn place_behind(pair: &(i32, u32)) -> u64
+pub fn place_behind(pair: &(i32, u32)) -> u64
     ensures { result ≡ from_least (pair_of pair.now).0 + 1 }
 {
     place_of(pair.0.cast_unsigned()) + 1

@@ -71,7 +71,7 @@ fn put_pairs(out: &mut Vec<u8>, at: u32, pairs: &[(i32, u32)]) -> Result<(), All
     Ok(())
 }
 
-fn low_bits_of(table: &TableSwitch) -> u32
+pub fn low_bits_of(table: &TableSwitch) -> u32
     ensures { result ≡ cast_unsigned w32 table.now.low }
 {
     table.low.cast_unsigned()
