@@ -7,7 +7,7 @@ use std::alloc::{AllocError, AllocFailed};
 use thiserror::Error;
 
 /// Why bytes are no code. Each offset is that of the start of an instruction.
-#[derive(Debug, Drop, Error)]
+#[derive(Debug, Drop, PartialEq, Eq, Error)]
 pub enum CodeErr {
     /// No instruction has this opcode, or an operand is one that its row doesn't allow.
     #[error("no instruction begins at offset {offset}")]

@@ -7,7 +7,7 @@ use crate::opcodes::{
 };
 
 /// A jump by table (*tableswitch*): the number `low + i` goes to `targets[i]`, every other to `default`.
-#[derive(Debug, Drop)]
+#[derive(Debug, Drop, PartialEq, Eq)]
 pub struct TableSwitch {
     /// Where a number goes that the table does not have, as an offset in the code.
     pub default: u32,
@@ -18,7 +18,7 @@ pub struct TableSwitch {
 }
 
 /// A jump by look-up (*lookupswitch*): a number goes to the target of the pair that has it, every other to `default`.
-#[derive(Debug, Drop)]
+#[derive(Debug, Drop, PartialEq, Eq)]
 pub struct LookupSwitch {
     /// Where a number goes that no pair has, as an offset in the code.
     pub default: u32,
@@ -28,7 +28,7 @@ pub struct LookupSwitch {
 
 /// An instruction. A `target` is an offset in the code, an `index` one in the constant pool, a `local` the number of a
 /// local variable.
-#[derive(Debug, Drop)]
+#[derive(Debug, Drop, PartialEq, Eq)]
 pub enum Instr {
     /// Pushes null.
     AconstNull,
