@@ -34,9 +34,9 @@ step_ok' (Err d) s f g y z k e = absurd cc
 pub steady_then : {A B : Type 0} (f : List ℕ → Result (A × List ℕ) Fault) (g : A → List ℕ → Result (B × List ℕ) Fault) → Steady f → ((a : A) → Steady (g a)) → Steady (λ bytes. f bytes >>= λ x. g x.0 x.1)
 steady_then f g s t = record {
   bad = λ bytes more e. step_bad (f bytes) (f (bytes ++ more)) (λ x. g x.0 x.1) (λ x. g x.0 x.1) (s.bad bytes more)
-    (λ x is h. ap (λ r. r >>= λ x. g x.0 x.1) (s.ok bytes more x is) ∙ (t x.0).bad x.1 more h) e;
+      (λ x is h. ap (λ r. r >>= λ x. g x.0 x.1) (s.ok bytes more x is) ∙ (t x.0).bad x.1 more h) e;
   ok = λ bytes more y e. step_ok' (f bytes) (f (bytes ++ more)) (λ x. g x.0 x.1) (λ x. g x.0 x.1) y (y.0, y.1 ++ more)
-    (λ x is h. ap (λ r. r >>= λ x. g x.0 x.1) (s.ok bytes more x is) ∙ (t x.0).ok x.1 more y h) e;
+      (λ x is h. ap (λ r. r >>= λ x. g x.0 x.1) (s.ok bytes more x is) ∙ (t x.0).ok x.1 more y h) e;
 }
 
 rest_then : {B : Type 0} (f : List ℕ → Result (List ℕ) Fault) (g : List ℕ → Result (B × List ℕ) Fault) → SteadyRest f → Steady g → Steady (λ bytes. f bytes >>= g)

@@ -46,21 +46,21 @@ code_stops zero total (b ∷ bytes) e lt fuel fits bs h = absurd (omega arith)
 code_stops (suc n) total (b ∷ bytes) e lt fuel fits bs h =
     stops_here n total b bytes e (row_at (total - length (b ∷ bytes)) (b ∷ bytes)) refl
     (λ x is k.
-        let at : ℕ = total - length (b ∷ bytes) in
-        let t = row_takes (total - length (b ∷ bytes)) (b ∷ bytes) x (omega arith) bs is in
-        let len : length (b ∷ bytes) ≡ length (row_bytes (total - length (b ∷ bytes)) x.0) + length x.1 = ap length t.0.parts ∙ length-append (row_bytes (total - length (b ∷ bytes)) x.0) x.1 in
-        let s = code_stops n total x.1 e lt (omega arith) (omega arith) t.0.rest_fits k in
-        let next : total - length x.1 ≡ (total - length (b ∷ bytes)) + length (row_bytes (total - length (b ∷ bytes)) x.0) = omega arith in
-        record {
-          code = (total - length (b ∷ bytes), x.0) ∷ s.code;
-          rest = s.rest;
-          cause = s.cause;
-          follows = (refl, t.1, subst (λ (a : ℕ). Follows a s.code) next s.follows);
-          parts = t.0.parts ∙ ap (λ (y : List ℕ). row_bytes (total - length (b ∷ bytes)) x.0 ++ y) s.parts ∙ sym (append_assoc (row_bytes (total - length (b ∷ bytes)) x.0) (spelling s.code) s.rest);
-          some = s.some;
-          reads = s.reads;
-          is = s.is;
-        }) h
+    let at : ℕ = total - length (b ∷ bytes) in
+    let t = row_takes (total - length (b ∷ bytes)) (b ∷ bytes) x (omega arith) bs is in
+    let len : length (b ∷ bytes) ≡ length (row_bytes (total - length (b ∷ bytes)) x.0) + length x.1 = ap length t.0.parts ∙ length-append (row_bytes (total - length (b ∷ bytes)) x.0) x.1 in
+    let s = code_stops n total x.1 e lt (omega arith) (omega arith) t.0.rest_fits k in
+    let next : total - length x.1 ≡ (total - length (b ∷ bytes)) + length (row_bytes (total - length (b ∷ bytes)) x.0) = omega arith in
+    record {
+      code = (total - length (b ∷ bytes), x.0) ∷ s.code;
+      rest = s.rest;
+      cause = s.cause;
+      follows = (refl, t.1, subst (λ (a : ℕ). Follows a s.code) next s.follows);
+      parts = t.0.parts ∙ ap (λ (y : List ℕ). row_bytes (total - length (b ∷ bytes)) x.0 ++ y) s.parts ∙ sym (append_assoc (row_bytes (total - length (b ∷ bytes)) x.0) (spelling s.code) s.rest);
+      some = s.some;
+      reads = s.reads;
+      is = s.is;
+    }) h
 
 -- the bytes up to where the first pass stopped, and what is behind
 pub record StopsAt (bytes : List ℕ) (at : ℕ) (f : Fault) : Type 0 where

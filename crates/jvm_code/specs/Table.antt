@@ -105,35 +105,92 @@ pub data Shape : Type 0 where
 -- the rows of several opcodes without operands
 abbrev pub stack_shape : ℕ → Option Shape
 stack_shape c =
-    elim (stack_op_of c) [ Some op ↦ Some IsNothing | None ↦
-    elim (arithmetic_of c) [ Some op ↦ Some IsNothing | None ↦
-    elim (division_of c) [ Some op ↦ Some IsNothing | None ↦
-    elim (negation_of c) [ Some op ↦ Some IsNothing | None ↦
-    elim (shift_of c) [ Some op ↦ Some IsNothing | None ↦
-    elim (bitwise_of c) [ Some op ↦ Some IsNothing | None ↦
-    elim (conversion_of c) [ Some op ↦ Some IsNothing | None ↦
-    elim (return_op_of c) [ Some op ↦ Some IsNothing | None ↦ None ] ] ] ] ] ] ] ]
+    elim (stack_op_of c) [
+      | Some op ↦ Some IsNothing
+      | None ↦
+          elim (arithmetic_of c) [
+            | Some op ↦ Some IsNothing
+            | None ↦
+                elim (division_of c) [
+                  | Some op ↦ Some IsNothing
+                  | None ↦
+                      elim (negation_of c) [
+                        | Some op ↦ Some IsNothing
+                        | None ↦
+                            elim (shift_of c) [
+                              | Some op ↦ Some IsNothing
+                              | None ↦
+                                  elim (bitwise_of c) [
+                                    | Some op ↦ Some IsNothing
+                                    | None ↦
+                                        elim (conversion_of c) [
+                                          | Some op ↦ Some IsNothing
+                                          | None ↦
+                                              elim (return_op_of c) [ Some op ↦ Some IsNothing | None ↦ None ]
+                                        ]
+                                  ]
+                            ]
+                      ]
+                ]
+          ]
+    ]
 
 abbrev pub constant_shape : ℕ → Option Shape
 constant_shape c =
-    elim (int_constant_of c) [ Some op ↦ Some IsNothing | None ↦
-    elim (long_constant_of c) [ Some op ↦ Some IsNothing | None ↦
-    elim (fixed_load_of c) [ Some op ↦ Some IsNothing | None ↦
-    elim (array_load_of c) [ Some op ↦ Some IsNothing | None ↦
-    elim (fixed_store_of c) [ Some op ↦ Some IsNothing | None ↦
-    elim (array_store_of c) [ Some op ↦ Some IsNothing | None ↦ stack_shape c ] ] ] ] ] ]
+    elim (int_constant_of c) [
+      | Some op ↦ Some IsNothing
+      | None ↦
+          elim (long_constant_of c) [
+            | Some op ↦ Some IsNothing
+            | None ↦
+                elim (fixed_load_of c) [
+                  | Some op ↦ Some IsNothing
+                  | None ↦
+                      elim (array_load_of c) [
+                        | Some op ↦ Some IsNothing
+                        | None ↦
+                            elim (fixed_store_of c) [
+                              | Some op ↦ Some IsNothing
+                              | None ↦
+                                  elim (array_store_of c) [ Some op ↦ Some IsNothing | None ↦ stack_shape c ]
+                            ]
+                      ]
+                ]
+          ]
+    ]
 
 -- the rows of several opcodes with an operand
 abbrev pub operand_shape : ℕ → Option Shape
 operand_shape c =
-    elim (load_op_of c) [ Some op ↦ Some IsByte | None ↦
-    elim (store_op_of c) [ Some op ↦ Some IsByte | None ↦
-    elim (zero_test_of c) [ Some op ↦ Some IsNear | None ↦
-    elim (int_test_of c) [ Some op ↦ Some IsNear | None ↦
-    elim (reference_test_of c) [ Some op ↦ Some IsNear | None ↦
-    elim (null_test_of c) [ Some op ↦ Some IsNear | None ↦
-    elim (field_op_of c) [ Some op ↦ Some IsHalf | None ↦
-    elim (invoke_op_of c) [ Some op ↦ Some IsHalf | None ↦ constant_shape c ] ] ] ] ] ] ] ]
+    elim (load_op_of c) [
+      | Some op ↦ Some IsByte
+      | None ↦
+          elim (store_op_of c) [
+            | Some op ↦ Some IsByte
+            | None ↦
+                elim (zero_test_of c) [
+                  | Some op ↦ Some IsNear
+                  | None ↦
+                      elim (int_test_of c) [
+                        | Some op ↦ Some IsNear
+                        | None ↦
+                            elim (reference_test_of c) [
+                              | Some op ↦ Some IsNear
+                              | None ↦
+                                  elim (null_test_of c) [
+                                    | Some op ↦ Some IsNear
+                                    | None ↦
+                                        elim (field_op_of c) [
+                                          | Some op ↦ Some IsHalf
+                                          | None ↦
+                                              elim (invoke_op_of c) [ Some op ↦ Some IsHalf | None ↦ constant_shape c ]
+                                        ]
+                                  ]
+                            ]
+                      ]
+                ]
+          ]
+    ]
 
 -- the operands of an opcode, where the table has it
 unfoldable pub shape_of : ℕ → Option Shape

@@ -1,9 +1,9 @@
 //! Instructions: a variant for each row of the instruction table (JVMS SE 8 §6.5).
 
 use crate::opcodes::{
-    Arithmetic, ArrayLoad, ArrayStore, Bitwise, Conversion, Division, FieldOp, FixedLoad, FixedStore, IntConstant,
-    IntTest, InvokeOp, LoadOp, LongConstant, Negation, NullTest, ReferenceTest, ReturnOp, Shift, StackOp, StoreOp,
-    ZeroTest,
+    Arithmetic, ArrayLoad, ArrayStore, Bitwise, Conversion, Division, FieldOp, FixedLoad,
+    FixedStore, IntConstant, IntTest, InvokeOp, LoadOp, LongConstant, Negation, NullTest,
+    ReferenceTest, ReturnOp, Shift, StackOp, StoreOp, ZeroTest,
 };
 
 /// A jump by table (*tableswitch*): the number `low + i` goes to `targets[i]`, every other to `default`.

@@ -14,8 +14,7 @@ use crate::writing::low_bits_of;
 
 fn target_widths(targets: &[u32])
     ensures { AllByRecursion (λ t. t < 2 ^ 32) targets.now }
-{
-}
+{}
 
 fn table_widths(table: &TableSwitch)
     ensures { HasWidths (table_of table.now) }

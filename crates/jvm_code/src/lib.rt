@@ -19,10 +19,13 @@ pub use decoding::decode;
 pub use encoding::encode;
 pub use error::CodeErr;
 pub use instr::{Instr, LookupSwitch, TableSwitch};
-pub use layout::laid;
 pub use laws::{decoded_is_encoded, encoded_is_decoded, spelling_has_one_list};
+pub use layout::laid;
 pub use opcodes::{
-    Arithmetic, ArrayLoad, ArrayStore, Bitwise, Conversion, Division, FieldOp, FixedLoad, FixedStore, IntConstant,
-    IntTest, InvokeOp, LoadOp, LongConstant, Negation, NullTest, ReferenceTest, ReturnOp, Shift, StackOp, StoreOp,
-    ZeroTest,
+    Arithmetic, ArrayLoad, ArrayStore, Bitwise, Conversion, Division, FieldOp, FixedLoad,
+    FixedStore, IntConstant, IntTest, InvokeOp, LoadOp, LongConstant, Negation, NullTest,
+    ReferenceTest, ReturnOp, Shift, StackOp, StoreOp, ZeroTest,
 };
+
+#[cfg(test)]
+mod tests;

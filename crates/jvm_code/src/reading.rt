@@ -8,9 +8,9 @@ use crate::fault::Fault;
 use crate::instr::Instr;
 use crate::numbers::{byte_of, count_of, far_of, near_of, only_of, u16_of};
 use crate::opcodes::{
-    Arithmetic, ArrayLoad, ArrayStore, Bitwise, Conversion, Division, FieldOp, FixedLoad, FixedStore, IntConstant,
-    IntTest, InvokeOp, LoadOp, LongConstant, Negation, NullTest, ReferenceTest, ReturnOp, Shift, StackOp, StoreOp,
-    ZeroTest,
+    Arithmetic, ArrayLoad, ArrayStore, Bitwise, Conversion, Division, FieldOp, FixedLoad,
+    FixedStore, IntConstant, IntTest, InvokeOp, LoadOp, LongConstant, Negation, NullTest,
+    ReferenceTest, ReturnOp, Shift, StackOp, StoreOp, ZeroTest,
 };
 use crate::switches::{lookup_switch_of, table_switch_of};
 use std::alloc::Global;
@@ -162,11 +162,21 @@ fn instr_behind(alloc: Global, at: u32, code: u8, rest: &[u8]) -> Result<(Instr,
         0x01 => Ok((Instr::AconstNull, rest)),
         0x10 => {
             let (n, rest) = byte_of(rest)?;
-            Ok((Instr::Bipush { value: n.cast_signed() }, rest))
+            Ok((
+                Instr::Bipush {
+                    value: n.cast_signed(),
+                },
+                rest,
+            ))
         }
         0x11 => {
             let (n, rest) = u16_of(rest)?;
-            Ok((Instr::Sipush { value: n.cast_signed() }, rest))
+            Ok((
+                Instr::Sipush {
+                    value: n.cast_signed(),
+                },
+                rest,
+            ))
         }
         0x13 => {
             let (index, rest) = u16_of(rest)?;

@@ -73,7 +73,12 @@ pub fn place_behind(pair: &(i32, u32)) -> u64
     place_of(pair.0.cast_unsigned()) + 1
 }
 
-fn pairs_of(alloc: Global, at: u32, count: u32, bytes: &[u8]) -> Result<(Vec<(i32, u32)>, &[u8]), Fault>
+fn pairs_of(
+    alloc: Global,
+    at: u32,
+    count: u32,
+    bytes: &[u8],
+) -> Result<(Vec<(i32, u32)>, &[u8]), Fault>
     ensures { Gives (λ x. (map pair_of x.0.items, x.1.now)) result (pairs_at at count 0 bytes.now) }
 {
     let mut pairs = Vec::new(alloc);
@@ -89,7 +94,11 @@ fn pairs_of(alloc: Global, at: u32, count: u32, bytes: &[u8]) -> Result<(Vec<(i3
 }
 
 #[tactic(auto, unfolding(crate::specs::Reading::lookup_at))]
-pub fn lookup_switch_of(alloc: Global, at: u32, bytes: &[u8]) -> Result<(LookupSwitch, &[u8]), Fault>
+pub fn lookup_switch_of(
+    alloc: Global,
+    at: u32,
+    bytes: &[u8],
+) -> Result<(LookupSwitch, &[u8]), Fault>
     ensures { Gives (λ x. (lookup_of x.0, x.1.now)) result (lookup_at at bytes.now) }
 {
     let rest = zeros_of(3 - at % 4, bytes)?;
