@@ -12,3 +12,5 @@ pub mod Steady
 pub mod Whys
 pub mod Rows
 pub mod Sizes
+pub mod Named
+pub mod Tells

@@ -6,3 +6,4 @@ pub mod Decoding
 pub mod Reach
 pub mod Refusals
 pub mod Widths
+pub mod Same

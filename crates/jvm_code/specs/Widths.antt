@@ -1,5 +1,6 @@
 -- The numbers of an instruction, within the widths of their types; those of pairs are in `Ascends`.
-use Rattle.std.specs.Prelude.{ℕ, ◌^◌, ◌<◌, List, [], ◌∷◌}
+use Rattle.std.specs.Prelude.{ℕ, ◌^◌, ◌<◌, List, [], ◌∷◌, FitsSigned}
+use Rattle.std.specs.Int.{w8, w16, w32}
 use Rattle.std.specs.List.{AllByRecursion}
 use Rattle.jvm_code.specs.declared.instr.Instr.{Instr}
 use Rattle.jvm_code.specs.declared.instr.Instr.TheVariants as instr
@@ -66,3 +67,50 @@ HasOperands (instr.WideLoad op n) = Unit {0}
 HasOperands (instr.WideStore op n) = Unit {0}
 HasOperands (instr.WideIinc n k) = Unit {0}
 HasOperands (instr.IfNull op t) = Unit {0}
+
+-- the signed numbers of an instruction, within their types
+abbrev pub HasRanges : Instr → Type 0
+HasRanges (instr.Bipush n) = FitsSigned w8 n
+HasRanges (instr.Sipush n) = FitsSigned w16 n
+HasRanges (instr.Iinc n k) = FitsSigned w8 k
+HasRanges (instr.WideIinc n k) = FitsSigned w16 k
+HasRanges (instr.TableSwitch t) = FitsSigned w32 t.low
+HasRanges (instr.LookupSwitch t) = AllByRecursion (λ p. FitsSigned w32 p.0) t.pairs.items
+HasRanges instr.AconstNull = Unit {0}
+HasRanges (instr.Iconst op) = Unit {0}
+HasRanges (instr.Lconst op) = Unit {0}
+HasRanges (instr.LdcW p) = Unit {0}
+HasRanges (instr.Ldc2W p) = Unit {0}
+HasRanges (instr.Load op n) = Unit {0}
+HasRanges (instr.LoadFixed op) = Unit {0}
+HasRanges (instr.LoadElement op) = Unit {0}
+HasRanges (instr.Store op n) = Unit {0}
+HasRanges (instr.StoreFixed op) = Unit {0}
+HasRanges (instr.StoreElement op) = Unit {0}
+HasRanges (instr.Stack op) = Unit {0}
+HasRanges (instr.Arithmetic op) = Unit {0}
+HasRanges (instr.Divide op) = Unit {0}
+HasRanges (instr.Negate op) = Unit {0}
+HasRanges (instr.Shift op) = Unit {0}
+HasRanges (instr.Bitwise op) = Unit {0}
+HasRanges (instr.Convert op) = Unit {0}
+HasRanges instr.Lcmp = Unit {0}
+HasRanges (instr.If op t) = Unit {0}
+HasRanges (instr.IfIcmp op t) = Unit {0}
+HasRanges (instr.IfAcmp op t) = Unit {0}
+HasRanges (instr.Goto t) = Unit {0}
+HasRanges (instr.Return op) = Unit {0}
+HasRanges (instr.Field op p) = Unit {0}
+HasRanges (instr.Invoke op p) = Unit {0}
+HasRanges (instr.InvokeInterface p n) = Unit {0}
+HasRanges (instr.New p) = Unit {0}
+HasRanges instr.NewIntArray = Unit {0}
+HasRanges (instr.AnewArray p) = Unit {0}
+HasRanges instr.ArrayLength = Unit {0}
+HasRanges instr.Athrow = Unit {0}
+HasRanges (instr.Checkcast p) = Unit {0}
+HasRanges (instr.Instanceof p) = Unit {0}
+HasRanges (instr.WideLoad op n) = Unit {0}
+HasRanges (instr.WideStore op n) = Unit {0}
+HasRanges (instr.IfNull op t) = Unit {0}
+HasRanges (instr.GotoW t) = Unit {0}

@@ -19,7 +19,9 @@ pub use decoding::decode;
 pub use encoding::encode;
 pub use error::CodeErr;
 pub use instr::{Instr, LookupSwitch, TableSwitch};
-pub use laws::{decoded_is_encoded, encoded_is_decoded, spelling_has_one_list};
+pub use laws::{
+    decoded_is_encoded, encoded_is_decoded, row_tells_instruction, spelling_has_one_list,
+};
 pub use layout::laid;
 pub use opcodes::{
     Arithmetic, ArrayLoad, ArrayStore, Bitwise, Conversion, Division, FieldOp, FixedLoad,
