@@ -1,7 +1,7 @@
 -- An instruction that is read is the one that was written, and what was written is read again.
-use Rattle.std.proofs.Common.{◌≡◌, ℕ, zero, suc, ◌+◌, ◌-◌, ◌%◌, ◌^◌, ◌<◌, ◌≤◌, Bool, true, false, cond, List, [], ◌∷◌, ◌++◌, length, length-append, Option, Some, None, Result, Ok, Err, refl, sym, ap, subst, ◌∙◌, append_assoc, arith}
-use Rattle.std.specs.Prelude.{◌==◌, replicate, int_lt, nat_lt, if◌then◌else◌, IfOk}
-use Rattle.std.specs.List.{flat_map, AllByRecursion}
+use Rattle.std.proofs.Common.{◌≡◌, ℕ, ◌+◌, ◌-◌, ◌%◌, ◌^◌, ◌<◌, ◌≤◌, Bool, true, false, cond, List, [], ◌∷◌, ◌++◌, length, length-append, Option, Some, None, Result, Ok, Err, refl, sym, ap, subst, ◌∙◌, append_assoc, arith}
+use Rattle.std.specs.Prelude.{◌==◌, int_lt, nat_lt, if◌then◌else◌, IfOk}
+use Rattle.std.specs.List.{flat_map}
 use Rattle.std.specs.Int.{w16, w32, to_be_bytes, cast_signed}
 use Rattle.std.proofs.lemmas.Bool.{ltb-true, lt-ltb, eqb-true}
 use Rattle.jvm_code.specs.declared.fault.Fault.{Fault}
@@ -10,10 +10,10 @@ use Rattle.jvm_code.specs.Table.{Operands, Nothing, Byte, Half, LocalAmount, Nea
 use Rattle.jvm_code.specs.declared.opcodes.LoadOp.{LoadOp}
 use Rattle.jvm_code.specs.declared.opcodes.StoreOp.{StoreOp}
 use Rattle.jvm_code.specs.Opcodes.{load_op_of, store_op_of}
-use Rattle.jvm_code.specs.Spelling.{far_bytes, padding, high_of, pair_bytes, operand_bytes, row_bytes, from_least, Has, HasShape, Allowed, Ascends}
-use Rattle.jvm_code.specs.Reach.{IsWithin, Reaches}
+use Rattle.jvm_code.specs.Spelling.{far_bytes, padding, high_of, pair_bytes, operand_bytes, row_bytes, from_least, Has, HasShape, Allowed}
+use Rattle.jvm_code.specs.Reach.{Reaches}
 use Rattle.jvm_code.specs.Reading.{◌>>=◌, Gives, byte_at, number_at, only_at, count_at, near_at, far_at, fars_at, zeros_at, pairs_at, table_at, lookup_at, called_at, ints_at, wide_at, wide_operands_at, operands_at, shaped_at, row_at}
-use Rattle.jvm_code.proofs.Fields.{IsBytes, IsBytes-rest, step_ok, unless_ok, where_ok, done, done_is, Takes, takes_nothing, takes_both, word, half, number_takes, number_again, byte_takes, only_takes, only_again, count_takes, count_again}
+use Rattle.jvm_code.proofs.Fields.{IsBytes, IsBytes-rest, step_ok, unless_ok, where_ok, done, done_is, Takes, takes_nothing, takes_both, word, half, number_takes, number_again, byte_takes, only_takes, count_takes, count_again}
 use Rattle.jvm_code.proofs.Distances.{count_high, high_count}
 use Rattle.jvm_code.proofs.Shapes.{zeros_take, zeros_again, far_takes, far_reads, near_takes, near_reads, fars_take, fars_again, pairs_take, pairs_again}
 

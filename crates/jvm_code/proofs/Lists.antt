@@ -3,11 +3,11 @@ use Rattle.std.proofs.Common.{◌≡◌, ℕ, zero, suc, ◌+◌, ◌-◌, ◌^�
 use Rattle.jvm_code.specs.declared.fault.Fault.{Fault}
 use Rattle.jvm_code.specs.declared.error.CodeErr.{CodeErr}
 use Rattle.jvm_code.specs.Table.{Row}
-use Rattle.jvm_code.specs.Spelling.{row_bytes, Allowed, Follows, spelling}
+use Rattle.jvm_code.specs.Spelling.{row_bytes, Follows, spelling}
 use Rattle.jvm_code.specs.Reach.{Reaches}
 use Rattle.jvm_code.specs.Reading.{row_at}
-use Rattle.jvm_code.specs.Decoding.{behind_first, in_front, placed, rows_at}
-use Rattle.jvm_code.proofs.Fields.{IsBytes, Takes}
+use Rattle.jvm_code.specs.Decoding.{behind_first, in_front, rows_at}
+use Rattle.jvm_code.proofs.Fields.{IsBytes}
 use Rattle.jvm_code.proofs.Instructions.{row_takes, row_again}
 use Rattle.jvm_code.proofs.Passes.{one_more}
 

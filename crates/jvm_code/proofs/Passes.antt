@@ -1,5 +1,5 @@
 -- Reading instructions one after the other, and judging their targets, as loops do.
-use Rattle.std.proofs.Common.{◌≡◌, Bool, true, false, Option, Some, None, ℕ, suc, ◌-◌, ◌+◌, ◌<◌, List, [], ◌∷◌, ◌++◌, length, Result, Ok, Err, refl, sym, ap, ◌∙◌, append_assoc, arith}
+use Rattle.std.proofs.Common.{◌≡◌, true, false, Option, Some, None, ℕ, suc, ◌-◌, ◌+◌, ◌<◌, List, [], ◌∷◌, ◌++◌, length, Result, Ok, Err, refl, sym, ap, ◌∙◌, append_assoc, arith}
 use Rattle.std.proofs.lemmas.List.{append-nil}
 use Rattle.jvm_code.specs.declared.fault.Fault.{Fault}
 use Rattle.jvm_code.specs.declared.fault.Fault.TheVariants as fault

@@ -1,11 +1,10 @@
 -- Padding, targets and pairs that are read are those that were written, and what was written is read again.
-use Rattle.std.proofs.Common.{◌≡◌, ℕ, zero, suc, ◌+◌, ◌-◌, ◌%◌, ◌^◌, ◌<◌, ◌≤◌, List, [], ◌∷◌, ◌++◌, length, Result, Ok, Err, false, refl, sym, ap, subst, ◌∙◌, append_assoc, arith}
+use Rattle.std.proofs.Common.{◌≡◌, ℕ, zero, suc, ◌+◌, ◌%◌, ◌^◌, ◌<◌, ◌≤◌, List, [], ◌∷◌, ◌++◌, length, Ok, Err, false, refl, sym, ap, subst, ◌∙◌, append_assoc, arith}
 use Rattle.std.specs.Prelude.{replicate, nat_lt, if◌then◌else◌}
 use Rattle.std.specs.List.{flat_map, AllByRecursion}
 use Rattle.std.specs.Int.{w16, w32, to_be_bytes}
 use Rattle.std.proofs.lemmas.Bool.{ltb-false, le-ltb}
 use Rattle.std.proofs.lemmas.List.Concat.{flat_map-cons}
-use Rattle.jvm_code.specs.declared.fault.Fault.{Fault}
 use Rattle.jvm_code.specs.declared.fault.Fault.TheVariants.{BadOpcode}
 use Rattle.jvm_code.specs.Spelling.{distance, near_bytes, far_bytes, pair_bytes, from_least, Ascends}
 use Rattle.jvm_code.specs.Reading.{◌>>=◌, number_at, only_at, near_from, far_from, near_at, far_at, fars_at, zeros_at, pair_at, pairs_at}

@@ -1,11 +1,10 @@
 -- How many bytes operands take, and which offsets follow.
-use Rattle.std.proofs.Common.{◌≡◌, ℕ, zero, suc, ◌+◌, ◌-◌, ◌*◌, ◌%◌, ◌^◌, ◌<◌, ◌≤◌, List, [], ◌∷◌, ◌++◌, length, length-append, drop, take, get_or, append_assoc, refl, sym, ap, subst, ◌∙◌, arith}
-use Rattle.std.specs.Prelude.{replicate, map}
+use Rattle.std.proofs.Common.{◌≡◌, ℕ, ◌+◌, ◌-◌, ◌*◌, ◌%◌, ◌^◌, ◌<◌, ◌≤◌, List, [], ◌∷◌, ◌++◌, length, length-append, take, get_or, append_assoc, refl, sym, ap, subst, ◌∙◌, arith}
 use Rattle.std.specs.List.{flat_map}
 use Rattle.std.specs.Int.{w32, to_be_bytes}
 use Rattle.std.proofs.lemmas.List.{length-replicate, append-nil, map_more}
 use Rattle.std.proofs.lemmas.List.Concat.{flat_map-cons}
-use Rattle.jvm_code.specs.Table.{Operands, Table, Lookup, Row, row_of}
+use Rattle.jvm_code.specs.Table.{Table, Lookup, Row, row_of}
 use Rattle.jvm_code.specs.declared.instr.Instr.{Instr}
 use Rattle.jvm_code.specs.Decoding.{rows, at_row}
 use Rattle.jvm_code.specs.Spelling.{far_bytes, pair_bytes, padding, high_of, operand_bytes, row_bytes, Allowed, Follows, Ascends, from_least, spelling}

@@ -1,12 +1,12 @@
 -- A reader from left to right: what it gave, or refused, it gives or refuses whatever bytes follow.
-use Rattle.std.proofs.Common.{◌≡◌, ℕ, zero, suc, ◌+◌, ◌-◌, ◌%◌, ◌^◌, ◌<◌, ◌≤◌, Bool, true, false, cond, ltb, List, [], ◌∷◌, ◌++◌, length, length-append, take, drop, Option, Some, None, Result, Ok, Err, refl, sym, ap, ◌∙◌, arith}
+use Rattle.std.proofs.Common.{◌≡◌, ℕ, zero, suc, ◌+◌, ◌-◌, ◌%◌, ◌^◌, ◌≤◌, Bool, true, false, cond, ltb, List, [], ◌∷◌, ◌++◌, length, length-append, take, drop, Option, Some, None, Result, Ok, Err, refl, ap, ◌∙◌, arith}
 use Rattle.std.specs.Prelude.{◌==◌, int_lt, nat_lt, if◌then◌else◌}
 use Rattle.std.specs.Int.{Width, w16, w32, byte_len, from_be_bytes, cast_signed}
 use Rattle.std.proofs.lemmas.Bool.{ltb-false, le-ltb}
 use Rattle.std.proofs.lemmas.List.{take-append-le, drop-append-le}
 use Rattle.jvm_code.specs.declared.fault.Fault.{Fault}
 use Rattle.jvm_code.specs.declared.fault.Fault.TheVariants.{BadOpcode, Cut, NoMemory}
-use Rattle.jvm_code.specs.Table.{Operands, Nothing, Byte, Half, LocalAmount, Near, Far, Called, Ints, Table, Lookup, Wide, WideAmount, Row, row, Shape, IsNothing, IsByte, IsHalf, IsLocalAmount, IsNear, IsFar, IsCalled, IsInts, IsTable, IsLookup, IsWide, WideShape, IsLocal, IsAmount, shape_of, wide_shape}
+use Rattle.jvm_code.specs.Table.{Nothing, Byte, Half, LocalAmount, Near, Far, Called, Ints, Table, Lookup, Wide, WideAmount, row, Shape, IsNothing, IsByte, IsHalf, IsLocalAmount, IsNear, IsFar, IsCalled, IsInts, IsTable, IsLookup, IsWide, WideShape, IsLocal, IsAmount, shape_of, wide_shape}
 use Rattle.jvm_code.specs.Spelling.{from_least}
 use Rattle.jvm_code.specs.Reading.{◌>>=◌, byte_at, number_at, only_at, count_at, near_from, far_from, near_at, far_at, fars_at, zeros_at, pair_at, pairs_at, table_at, lookup_at, called_at, ints_at, wide_at, wide_operands_at, operands_at, shaped_at, row_at}
 use Rattle.jvm_code.proofs.Fields.{unless_ok, where_ok, done, done_is}

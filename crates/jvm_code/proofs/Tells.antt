@@ -7,7 +7,7 @@ use Rattle.std.proofs.lemmas.Int.{ints}
 use Rattle.jvm_code.specs.declared.instr.Instr.{Instr}
 use Rattle.jvm_code.specs.declared.instr.Instr.TheVariants as instr
 use Rattle.jvm_code.specs.Opcodes.{int_constant_code, int_constant_of, long_constant_code, long_constant_of, load_op_code, load_op_of, fixed_load_code, fixed_load_of, array_load_code, array_load_of, store_op_code, store_op_of, fixed_store_code, fixed_store_of, array_store_code, array_store_of, stack_op_code, stack_op_of, arithmetic_code, arithmetic_of, division_code, division_of, negation_code, negation_of, shift_code, shift_of, bitwise_code, bitwise_of, conversion_code, conversion_of, zero_test_code, zero_test_of, int_test_code, int_test_of, reference_test_code, reference_test_of, return_op_code, return_op_of, field_op_code, field_op_of, invoke_op_code, invoke_op_of, null_test_code, null_test_of}
-use Rattle.jvm_code.specs.Table.{Operands, Nothing, Byte, Half, LocalAmount, Near, Far, Called, Ints, Table, Lookup, Wide, WideAmount, Row, row_of, pair_of, table_of, lookup_of}
+use Rattle.jvm_code.specs.Table.{Nothing, Byte, Half, Near, Wide, Row, row_of, pair_of, table_of, lookup_of}
 use Rattle.jvm_code.specs.declared.instr.TableSwitch.{TableSwitch}
 use Rattle.jvm_code.specs.declared.instr.LookupSwitch.{LookupSwitch}
 use Rattle.jvm_code.specs.Widths.{HasRanges}

@@ -1,5 +1,5 @@
 -- The opcodes of the rows that have several, and back (JVMS SE 8 §6.5).
-use Rattle.std.specs.Prelude.{ℕ, List, [], ◌∷◌, Option, Some, None, ◌==◌, find}
+use Rattle.std.specs.Prelude.{ℕ, [], ◌∷◌, Option, ◌==◌, find}
 use Rattle.jvm_code.specs.declared.opcodes.IntConstant.{IntConstant}
 use Rattle.jvm_code.specs.declared.opcodes.IntConstant.TheVariants as int_constant
 use Rattle.jvm_code.specs.declared.opcodes.LongConstant.{LongConstant}

@@ -1,5 +1,5 @@
 -- The numbers of an instruction, within the widths of their types; those of pairs are in `Ascends`.
-use Rattle.std.specs.Prelude.{ℕ, ◌^◌, ◌<◌, List, [], ◌∷◌, FitsSigned}
+use Rattle.std.specs.Prelude.{◌^◌, ◌<◌, FitsSigned}
 use Rattle.std.specs.Int.{w8, w16, w32}
 use Rattle.std.specs.List.{AllByRecursion}
 use Rattle.jvm_code.specs.declared.instr.Instr.{Instr}

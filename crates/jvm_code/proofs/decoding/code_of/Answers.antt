@@ -1,4 +1,4 @@
-use Rattle.std.proofs.Common.{◌≡◌, sym, arith, subst}
+use Rattle.std.proofs.Common.{sym, arith, subst}
 use Rattle.std.specs.List.Sorted.{IsStrictlyIncreasing}
 use Rattle.jvm_code.specs.Decoding.{rows, starts_of}
 use Rattle.jvm_code.proofs.Theorem.{read_ascends}

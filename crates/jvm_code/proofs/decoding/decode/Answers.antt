@@ -1,4 +1,4 @@
-use Rattle.std.proofs.Common.{◌≡◌, length, ap, subst, ◌∙◌, arith}
+use Rattle.std.proofs.Common.{length, ap, subst, ◌∙◌, arith}
 use Rattle.jvm_code.specs.Decoding.{Decodes, rows, decode_of}
 use Rattle.jvm_code.proofs.Theorem.{is_found, decode_again}
 use Rattle.jvm_code.proofs.Whys.{why_not}

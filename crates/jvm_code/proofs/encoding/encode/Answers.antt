@@ -1,4 +1,4 @@
-use Rattle.std.proofs.Common.{◌≡◌, ◌++◌, take, ap, sym, ◌∙◌}
+use Rattle.std.proofs.Common.{◌++◌, take, ap, sym, ◌∙◌}
 use Rattle.jvm_code.specs.Table.{row_of}
 use Rattle.jvm_code.specs.Spelling.{row_bytes, spelling}
 use Rattle.jvm_code.specs.Decoding.{rows}

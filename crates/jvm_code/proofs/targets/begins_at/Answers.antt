@@ -1,4 +1,4 @@
-use Rattle.std.proofs.Common.{◌≡◌, ◌+◌, ◌-◌, ◌<◌, length, ap, sym, ◌∙◌, arith}
+use Rattle.std.proofs.Common.{◌+◌, ◌-◌, ◌<◌, length, sym, ◌∙◌, arith}
 use Rattle.std.specs.Prelude.{◌/◌}
 use Rattle.jvm_code.specs.Decoding.{rows, starts_of}
 use Rattle.jvm_code.proofs.Starts.{length_starts, start_at, outside_below, outside_above, found_none, found_here}

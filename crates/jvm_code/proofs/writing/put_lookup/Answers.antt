@@ -1,4 +1,4 @@
-use Rattle.std.proofs.Common.{◌≡◌, ◌++◌, ◌∙◌, ap, ◌%◌, ◌^◌, length}
+use Rattle.std.proofs.Common.{◌++◌, ◌∙◌, ap, ◌%◌, ◌^◌, length}
 use Rattle.std.specs.Prelude.{map}
 use Rattle.std.specs.List.{flat_map}
 use Rattle.std.specs.Int.{w32, to_be_bytes}
