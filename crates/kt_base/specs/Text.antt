@@ -1,8 +1,9 @@
 -- Texts as lists of UTF-16 code units.
-use Rattle.std.specs.Prelude.{ℕ, Bool, false, ◌&&◌, List, [], ◌∷◌, Option, None, Some, encode_utf8}
+use Rattle.std.specs.Prelude.{◌≡◌, ℕ, Bool, false, ◌&&◌, List, [], ◌∷◌, Option, None, Some, encode_utf8}
 use Rattle.std.specs.Char.Escape.{encode_utf16}
 use Rattle.std.specs.Char.Utf16.{utf16_chars, is_high_surrogate, is_low_surrogate}
 use Rattle.std.specs.List.{flat_map}
+use Rattle.std.specs.Str.{chars, IsUtf8}
 
 -- the code units of characters (Unicode §3.9, D91)
 abbrev pub utf16_of : List ℕ → List ℕ
@@ -21,3 +22,7 @@ utf8_of units = flat_map utf8_char (utf16_chars units)
 abbrev pub starts_with_pair : List ℕ → Bool
 starts_with_pair (high ∷ low ∷ units) = is_high_surrogate high && is_low_surrogate low
 starts_with_pair _ = false
+
+-- what the code units of a valid text are in UTF-8: the text
+abbrev pub RoundTrip : Type 0
+RoundTrip = (bytes : List ℕ) → IsUtf8 bytes → utf8_of (utf16_of (chars bytes)) ≡ bytes

@@ -8,6 +8,7 @@
 pub mod bounds;
 pub mod errors;
 pub mod events;
+pub mod laws;
 pub mod lumps;
 pub mod names;
 pub mod refusals;

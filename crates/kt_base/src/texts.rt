@@ -5,8 +5,16 @@ ghost use Rattle.std.specs.Prelude.{◌≡◌, ◌<◌, ◌≤◌, [], ◌∷◌
 ghost use Rattle.std.specs.Char.Utf16.{utf16_chars, is_high_surrogate, is_low_surrogate, surrogate_pair_char, lone_unit_char};
 ghost use Rattle.std.specs.Str.{chars};
 
+ghost use Rattle.std.specs.Prelude.{◌==◌};
+ghost use Rattle.std.specs.Cmp.{partial_equiv_from_equiv};
+ghost use Rattle.std.specs.Cmp.Lexicographic.{pointwise, nat_list_eq_equiv};
+ghost use Rattle.std.specs.Hash as fed;
+ghost use Rattle.std.specs.Cmp.Rules.{hashing};
+ghost use Rattle.std.proofs.Common.{rules};
+
 use crate::errors::NoMemory;
-use std::alloc::Global;
+use std::alloc::{AllocError, Global};
+use std::hash::{Hash, Hasher};
 use std::marker::Model;
 
 /// A text: a list of UTF-16 code units, in which a surrogate may stand without a partner.
@@ -69,6 +77,39 @@ impl Text16 {
             into.truncate(length);
         }
         outcome
+    }
+}
+
+impl PartialEq for Text16 {
+    ghost eq = { pointwise ◌==◌ };
+
+    ghost laws = { partial_equiv_from_equiv nat_list_eq_equiv };
+
+    fn eq(&self, other: &Text16) -> bool {
+        self.units() == other.units()
+    }
+}
+
+impl Eq for Text16 {
+    ghost laws = { nat_list_eq_equiv };
+}
+
+impl Hash for Text16 {
+    ghost hash_input = { fed.slice fed.u16 };
+
+    ghost respects_eq = { Prim.search (hashing, rules) };
+
+    fn hash<H: Hasher>(&self, state: &mut H) {
+        self.units().hash(state);
+    }
+}
+
+impl Clone for Text16 {
+    ghost is_clone = { λ text copy. copy ≡ text };
+
+    fn clone(&self) -> Result<Text16, AllocError> {
+        let units = self.units.clone()?;
+        Ok(Text16 { units })
     }
 }
 
