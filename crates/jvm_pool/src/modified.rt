@@ -2,7 +2,7 @@
 
 ghost use Rattle.jvm_pool.specs.Modified.{unit_bytes, modified, IsText};
 ghost use Rattle.jvm_pool.specs.ModifiedReading as reading;
-ghost use Rattle.std.specs.Prelude.{◌≡◌, ◌<◌, ◌≤◌, ℕ, List, ◌++◌, length, take, option_map, IfOk, OnOk, OnErr, Err};
+ghost use Rattle.std.specs.Prelude.{◌≡◌, ◌+◌, ◌*◌, ◌%◌, ◌<◌, ◌≤◌, ℕ, List, ◌++◌, length, take, option_map, IfOk, OnOk, OnErr, Err};
 
 use crate::errors::ModifiedErr;
 use kt_base::{NoMemory, Text16};
