@@ -1,2 +1,4 @@
+pub mod DescriptorReading
+pub mod Descriptors
 pub mod Modified
 pub mod ModifiedReading

@@ -1,8 +1,13 @@
 //! The constant pool of a class file, and the two notations that its texts are in: modified UTF-8 and descriptors.
 #![tactic(auto)]
 
+mod descriptor_reading;
+pub mod descriptors;
 pub mod errors;
 pub mod modified;
+mod spelling;
 
+pub use descriptor_reading::read_descriptor;
+pub use descriptors::{Descriptor, FieldType};
 pub use errors::{DescriptorErr, ModifiedErr};
 pub use modified::{put_modified, read_modified};
