@@ -1,4 +1,6 @@
 pub mod DescriptorReading
 pub mod Descriptors
+pub mod Entries
+pub mod Mentions
 pub mod Modified
 pub mod ModifiedReading

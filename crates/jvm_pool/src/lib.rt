@@ -3,11 +3,13 @@
 
 mod descriptor_reading;
 pub mod descriptors;
+pub mod entries;
 pub mod errors;
 pub mod modified;
 mod spelling;
 
 pub use descriptor_reading::read_descriptor;
 pub use descriptors::{Descriptor, FieldType};
+pub use entries::Entry;
 pub use errors::{DescriptorErr, ModifiedErr};
 pub use modified::{put_modified, read_modified};
