@@ -1,6 +1,8 @@
 pub mod DescriptorLaws
 pub mod Fronts
+pub mod Order
 pub mod Prefixes
+pub mod Same
 pub mod Spelled
 pub mod Texts
 pub mod Types

@@ -2,11 +2,46 @@
 
 ghost use Rattle.jvm_pool.specs.declared.errors.DescriptorErr.TheVariants as descriptor_err;
 ghost use Rattle.jvm_pool.specs.declared.errors.ModifiedErr.TheVariants as modified_err;
+ghost use Rattle.jvm_pool.specs.declared.errors.PoolErr.TheVariants as pool_err;
 ghost use Rattle.std.specs.Prelude.{◌≡◌};
 
 use kt_base::NoMemory;
 use std::alloc::{AllocError, AllocFailed};
 use thiserror::Error;
+
+/// Why an entry can't be added to a pool.
+#[derive(Clone, Copy, Debug, PartialEq, Eq, Hash, Error)]
+pub enum PoolErr {
+    /// The pool's count would pass 65,535.
+    #[error("the constant pool is full")]
+    Full,
+    #[error("out of memory")]
+    NoMemory,
+}
+
+impl From<NoMemory> for PoolErr {
+    ghost from_gives = { λ _ e. e ≡ pool_err.NoMemory };
+
+    fn from(_: NoMemory) -> PoolErr {
+        PoolErr::NoMemory
+    }
+}
+
+impl From<AllocError> for PoolErr {
+    ghost from_gives = { λ _ e. e ≡ pool_err.NoMemory };
+
+    fn from(_: AllocError) -> PoolErr {
+        PoolErr::NoMemory
+    }
+}
+
+impl<T: Drop> From<AllocFailed<T>> for PoolErr {
+    ghost from_gives = { λ _ e. e ≡ pool_err.NoMemory };
+
+    fn from(_: AllocFailed<T>) -> PoolErr {
+        PoolErr::NoMemory
+    }
+}
 
 /// Why bytes aren't read as modified UTF-8.
 #[derive(Clone, Copy, Debug, PartialEq, Eq, Hash, Error)]

@@ -5,11 +5,14 @@ mod descriptor_reading;
 pub mod descriptors;
 pub mod entries;
 pub mod errors;
+pub mod laws;
 pub mod modified;
+pub mod pool;
 mod spelling;
 
 pub use descriptor_reading::read_descriptor;
 pub use descriptors::{Descriptor, FieldType};
 pub use entries::Entry;
-pub use errors::{DescriptorErr, ModifiedErr};
+pub use errors::{DescriptorErr, ModifiedErr, PoolErr};
 pub use modified::{put_modified, read_modified};
+pub use pool::Pool;

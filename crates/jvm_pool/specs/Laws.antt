@@ -1,0 +1,19 @@
+-- Laws of the definitions.
+use Rattle.std.specs.Prelude.{◌≡◌, ◌↔◌, ℕ, List, []}
+use Rattle.jvm_pool.specs.declared.entries.Entry.{Entry}
+use Rattle.jvm_pool.specs.declared.descriptors.Descriptor.{Descriptor}
+use Rattle.jvm_pool.specs.Descriptors.{spelled, IsDescriptor, IsSameDescriptor}
+use Rattle.jvm_pool.specs.Mentions.{with_mentions, IsInOrder}
+use Rattle.jvm_pool.specs.Modified.{modified, IsText}
+
+-- two texts that are spelled by the same bytes are the same
+abbrev pub OneText : Type 0
+OneText = (text other : List ℕ) → IsText text → IsText other → modified text ≡ modified other → text ≡ other
+
+-- two descriptors that are spelled the same are the same
+abbrev pub OneDescriptor : Type 0
+OneDescriptor = (d e : Descriptor) → IsDescriptor d → IsDescriptor e → spelled d ≡ spelled e → IsSameDescriptor d e
+
+-- the entries of a file in order are exactly those that a pool grows from its mentions
+abbrev pub OneOrder : Type 0
+OneOrder = (es ms : List Entry) → IsInOrder es ms ↔ (es ≡ with_mentions ms [])
