@@ -1,8 +1,10 @@
 pub mod DescriptorLaws
 pub mod Fronts
+pub mod Growing
 pub mod Order
 pub mod Prefixes
 pub mod Same
+pub mod Seeking
 pub mod Spelled
 pub mod Texts
 pub mod Types

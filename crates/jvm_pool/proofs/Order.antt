@@ -58,7 +58,7 @@ seek_there k (x ∷ es) rest e h =
     by true is later = (k, rw is refl, omega (arith, size_some x))
     by false is later = let r = later is in (r.0, rw is r.1, omega (arith, r.2))
 
-seek_past : (k : ℕ) (es rest : List Entry) (e : Entry) → has es e ≡ false → seek k (es ++ rest) e ≡ seek (k + units es) rest e
+pub seek_past : (k : ℕ) (es rest : List Entry) (e : Entry) → has es e ≡ false → seek k (es ++ rest) e ≡ seek (k + units es) rest e
 unfolding seek
 seek_past k [] rest e h = ap (λ (j : ℕ). seek j rest e) (omega arith)
 seek_past k (x ∷ es) rest e h =

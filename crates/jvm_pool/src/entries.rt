@@ -5,12 +5,12 @@ ghost use Rattle.std.specs.Prelude.{◌≡◌, ◌++◌, ◌∷◌, [], IfOk, On
 ghost use Rattle.jvm_pool.specs.declared.entries.Entry.TheVariants as entry;
 
 use kt_base::{Name, NoMemory, Text16};
-use std::alloc::Global;
+use std::alloc::{AllocError, Global};
 
 /// An entry of a constant pool (JVMS SE 8 §4.4).
 ///
 /// It names its parts by content, and not by their indices. A class member has a class, a name and a descriptor.
-#[derive(Clone, Debug, PartialEq, Eq, Hash, Drop)]
+#[derive(Debug, PartialEq, Eq, Hash, Drop)]
 pub enum Entry {
     /// A text (§4.4.7).
     Utf8(Text16),
@@ -64,6 +64,32 @@ impl Entry {
             }
         }
         Ok(parts)
+    }
+}
+
+impl Clone for Entry {
+    ghost is_clone = { λ e copy. copy ≡ e };
+
+    fn clone(&self) -> Result<Entry, AllocError> {
+        Ok(match self {
+            Entry::Utf8(text) => Entry::Utf8(text.clone()?),
+            Entry::Int(number) => Entry::Int(*number),
+            Entry::Long(number) => Entry::Long(*number),
+            Entry::Class(name) => Entry::Class(name.clone()?),
+            Entry::Text(text) => Entry::Text(text.clone()?),
+            Entry::Field(class, name, descriptor) => {
+                Entry::Field(class.clone()?, name.clone()?, descriptor.clone()?)
+            }
+            Entry::Method(class, name, descriptor) => {
+                Entry::Method(class.clone()?, name.clone()?, descriptor.clone()?)
+            }
+            Entry::InterfaceMethod(class, name, descriptor) => {
+                Entry::InterfaceMethod(class.clone()?, name.clone()?, descriptor.clone()?)
+            }
+            Entry::NameAndType(name, descriptor) => {
+                Entry::NameAndType(name.clone()?, descriptor.clone()?)
+            }
+        })
     }
 }
 

@@ -2,9 +2,9 @@
 
 ghost use Rattle.indexmap.specs.IndexMap.{keys, values};
 ghost use Rattle.jvm_pool.specs.Entries.{size, units};
-ghost use Rattle.jvm_pool.specs.Mentions.{seek, with_each, with_mention, with_one};
+ghost use Rattle.jvm_pool.specs.Mentions.{has, seek, with_each, with_mention, with_one};
 ghost use Rattle.jvm_pool.specs.Numbering.{entry_at, starts, Grows};
-ghost use Rattle.std.specs.Prelude.{◌≡◌, ◌+◌, ◌<◌, ◌≤◌, ◌↔◌, [], length, slice_get, option_copied, IfOk, IfSome, IsTrue, OnErr, OnOk, Err, None, Some};
+ghost use Rattle.std.specs.Prelude.{◌≡◌, ◌+◌, ◌<◌, ◌≤◌, ◌↔◌, [], length, slice_get, option_copied, IfOk, IfSome, IsTrue, OnErr, OnOk, Err, None, Some, false};
 
 use crate::entries::Entry;
 use crate::errors::PoolErr;
@@ -92,6 +92,67 @@ impl Pool {
         let position = position_of(&self.indices, index)?;
         let (entry, _) = self.indices.get_index(position)?;
         Some(entry)
+    }
+
+    /// The index of the entry. Where it is absent, it is added, and its parts directly behind it.
+    ///
+    /// `Full` comes exactly where the count would pass 65,535. An error leaves the pool as it was.
+    pub fn add(&mut self, e: &Entry) -> Result<u16, PoolErr>
+        ensures index { IfOk result (λ index. seek 1 self.new e.now ≡ Some index) }
+        ensures grown { OnOk result (self.new ≡ with_mention e.now self.old) }
+        ensures room { OnOk result (1 + units (with_mention e.now self.old) ≤ 65535) }
+        ensures full { result ≡ Err PoolErr.Full → 65535 < 1 + units (with_mention e.now self.old) }
+        ensures err { OnErr result (self.new ≡ self.old) }
+    {
+        if let Some(index) = self.index_of(e) {
+            return Ok(index);
+        }
+        let length = self.indices.len();
+        let count = self.count;
+        match self.add_new(e) {
+            Ok(()) => Ok(count as u16),
+            Err(error) => {
+                self.indices.truncate(length);
+                self.count = count;
+                Err(error)
+            }
+        }
+    }
+
+    /// Adds an entry that is absent, and its parts. An error may leave some of them.
+    fn add_new(&mut self, e: &Entry) -> Result<(), PoolErr>
+        requires { has self.old e.now ≡ false }
+        ensures { Grows self.old self.new (with_mention e.now self.old) result }
+    {
+        self.add_one(e.clone()?)?;
+        let parts = e.parts(self.alloc)?;
+        self.add_each(parts)
+    }
+
+    /// Adds each of these alone. An error may leave some of them.
+    fn add_each(&mut self, entries: Vec<Entry>) -> Result<(), PoolErr>
+        ensures { Grows self.old self.new (with_each entries.items self.old) result }
+    {
+        for e in entries {
+            self.add_one(e)?;
+        }
+        Ok(())
+    }
+
+    /// Adds an entry without its parts.
+    fn add_one(&mut self, e: Entry) -> Result<(), PoolErr>
+        ensures { Grows self.old self.new (with_one e (λ es. es) self.old) result }
+    {
+        if self.index_of(&e).is_some() {
+            return Ok(());
+        }
+        let count = self.count + e.size();
+        if count > 65535 {
+            return Err(PoolErr::Full);
+        }
+        self.indices.insert(e, self.count as u16)?;
+        self.count = count;
+        Ok(())
     }
 }
 
