@@ -1,6 +1,7 @@
 pub mod DescriptorLaws
 pub mod Fronts
 pub mod Growing
+pub mod Kept
 pub mod Order
 pub mod Prefixes
 pub mod Same

@@ -16,3 +16,6 @@ pub use entries::Entry;
 pub use errors::{DescriptorErr, ModifiedErr, PoolErr};
 pub use modified::{put_modified, read_modified};
 pub use pool::Pool;
+
+#[cfg(test)]
+mod tests;
