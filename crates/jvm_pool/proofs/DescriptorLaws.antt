@@ -122,7 +122,7 @@ pub types_further : (ps : List FieldType) (rest bytes behind : List ℕ) (t : Fi
 types_further ps rest bytes behind t read found =
     let r = type_takes rest t behind found in
     let one : flat_map spelled_type (ps ++ t ∷ []) ≡ flat_map spelled_type ps ++ spelled_type t =
-        flat_map-append spelled_type ps (t ∷ []) ∙ ap (λ l. flat_map spelled_type ps ++ l) (append-nil (spelled_type t)) in
+    flat_map-append spelled_type ps (t ∷ []) ∙ ap (λ l. flat_map spelled_type ps ++ l) (append-nil (spelled_type t)) in
     ap (λ l. l ++ behind) one ∙ append_assoc (flat_map spelled_type ps) (spelled_type t) behind ∙ ap (λ l. flat_map spelled_type ps ++ l) (sym r.0) ∙ read
 
 pub type_shorter : (rest behind : List ℕ) (t : FieldType) → first_type rest ≡ Some (t, behind) → length behind < length rest

@@ -13,7 +13,7 @@ use Rattle.jvm_pool.specs.Descriptors.{spelled_type}
 pub kept_front : (old mid new x : List ℕ) → mid ≡ old ++ x → take (length mid) new ≡ mid → take (length old) new ≡ old
 kept_front old mid new x is kept =
     let whole : new ≡ old ++ (x ++ drop (length mid) new) =
-        sym (take-append-drop (length mid) new) ∙ ap (λ l. l ++ drop (length mid) new) (kept ∙ is) ∙ append_assoc old x (drop (length mid) new) in
+    sym (take-append-drop (length mid) new) ∙ ap (λ l. l ++ drop (length mid) new) (kept ∙ is) ∙ append_assoc old x (drop (length mid) new) in
     ap (take (length old)) whole ∙ take_at old (x ++ drop (length mid) new) (length old) refl
 
 ascii_one : (b : ℕ) → b < 128 → IsAscii (b ∷ [])

@@ -55,7 +55,7 @@ class_again name rest is =
     let at : position (λ b. b == 59) l ≡ Some (length name) = first_semicolon name rest is in
     let front : take (length name) l ≡ name = take_at name (59 ∷ rest) (length name) refl in
     let behind : drop (length name + 1) l ≡ rest =
-        ap (drop (length name + 1)) (sym (append_assoc name (59 ∷ []) rest)) ∙ drop_at (name ++ 59 ∷ []) rest (length name + 1) (length-append name (59 ∷ [])) in
+    ap (drop (length name + 1)) (sym (append_assoc name (59 ∷ []) rest)) ∙ drop_at (name ++ 59 ∷ []) rest (length name + 1) (length-append name (59 ∷ [])) in
     let test : is_class_name (take (length name) l) ≡ true = ap is_class_name front ∙ is in
     ap (class_before l) at ∙ ap (λ (b : Bool). cond {A = Option (List ℕ × List ℕ)} b (Some (take (length name) l, drop (length name + 1) l)) None) test ∙ ap (λ (f : List ℕ). let o : Option (List ℕ × List ℕ) = Some (f, drop (length name + 1) l) in o) front ∙ ap (λ (b : List ℕ). let o : Option (List ℕ × List ℕ) = Some (name, b) in o) behind
 

@@ -61,4 +61,3 @@ impl Descriptor {
         Name::of(alloc, bytes.as_slice())
     }
 }
-

@@ -98,7 +98,11 @@ fn two_byte_unit(first: u8, bytes: &[u8]) -> Option<(u16, &[u8])>
     match bytes {
         [second @ 0x80..=0xBF, rest @ ..] => {
             let unit = u16::from(first - 0xC0) * 0x40 + u16::from(*second - 0x80);
-            if unit == 0 || 0x80 <= unit { Some((unit, rest)) } else { None }
+            if unit == 0 || 0x80 <= unit {
+                Some((unit, rest))
+            } else {
+                None
+            }
         }
         _ => None,
     }
@@ -115,7 +119,11 @@ fn three_byte_unit(first: u8, bytes: &[u8]) -> Option<(u16, &[u8])>
             let unit = u16::from(first - 0xE0) * 0x1000
                 + u16::from(*second - 0x80) * 0x40
                 + u16::from(*third - 0x80);
-            if 0x800 <= unit { Some((unit, rest)) } else { None }
+            if 0x800 <= unit {
+                Some((unit, rest))
+            } else {
+                None
+            }
         }
         _ => None,
     }

@@ -17,10 +17,9 @@ fn name(alloc: Global, bytes: &str) -> Result<Name, Fail> {
     Ok(Name::of(alloc, bytes.as_bytes())?)
 }
 
-/// The bytes are worked out by hand from the tables of JVMS SE 8 §4.4.7.
-#[test]
-fn texts_and_their_bytes(rt: HostRuntime) -> Result<(), Fail> {
-    let table: [(&[u16], &[u8]); 10] = [
+/// Texts and their bytes, worked out by hand from the tables of JVMS SE 8 §4.4.7.
+fn spelled_texts() -> [(&'static [u16], &'static [u8]); 10] {
+    [
         (&[], b""),
         (&[0], b"\xC0\x80"),
         (&[0x01, 0x41, 0x7F], b"\x01A\x7F"),
@@ -31,8 +30,12 @@ fn texts_and_their_bytes(rt: HostRuntime) -> Result<(), Fail> {
         (&[0xD83D, 0xDE00], b"\xED\xA0\xBD\xED\xB8\x80"),
         (&[0xD800], b"\xED\xA0\x80"),
         (&[0xDFFF], b"\xED\xBF\xBF"),
-    ];
-    for (units, bytes) in table {
+    ]
+}
+
+#[test]
+fn texts_and_their_bytes(rt: HostRuntime) -> Result<(), Fail> {
+    for (units, bytes) in spelled_texts() {
         both_ways(&rt, rt.alloc(), units, bytes)?;
     }
     Ok(())
@@ -47,9 +50,8 @@ fn both_ways(rt: &impl Abort, alloc: Global, units: &[u16], bytes: &[u8]) -> Res
     Ok(())
 }
 
-#[test]
-fn bytes_that_spell_no_text(rt: HostRuntime) {
-    let table: [&[u8]; 14] = [
+fn no_texts() -> [&'static [u8]; 14] {
+    [
         b"a\x00",
         b"\x80",
         b"\xC0",
@@ -64,59 +66,69 @@ fn bytes_that_spell_no_text(rt: HostRuntime) {
         b"\xED\xA0\xBD\xED\xB8",
         b"\xF0\x9F\x98\x80",
         b"\xFF",
-    ];
-    for bytes in table {
-        assert_eq!(rt; read_modified(rt.alloc(), bytes).err(), Some(ModifiedErr::Bad), "at {bytes:?}");
+    ]
+}
+
+#[test]
+fn bytes_that_spell_no_text(rt: HostRuntime) {
+    for bytes in no_texts() {
+        let read = read_modified(rt.alloc(), bytes).err();
+        assert_eq!(rt; read, Some(ModifiedErr::Bad), "at {bytes:?}");
     }
 }
 
-/// The descriptors of JVMS SE 8 §4.3.2 and §4.3.3 over the types of the language, each spelled again as it was.
+/// The descriptors of JVMS SE 8 §4.3.2 and §4.3.3 over the types of the language.
+fn spelled_descriptors() -> &'static str {
+    "I J Z C LA; Ljava/lang/String; LMainKt$L1; [I [Ljava/lang/Object; ()V ()I (IJZC)V \
+     ([I[Ljava/lang/Object;La/b/C;)[Ljava/lang/Object; (Ljava/lang/Object;Lk/C;)Lk/D;"
+}
+
 #[test]
 fn descriptors(rt: HostRuntime) -> Result<(), Fail> {
-    let table = "I J Z C LA; Ljava/lang/String; LMainKt$L1; [I [Ljava/lang/Object; ()V ()I (IJZC)V \
-                 ([I[Ljava/lang/Object;La/b/C;)[Ljava/lang/Object; (Ljava/lang/Object;Lk/C;)Lk/D;";
-    for spelled in table.split(' ') {
+    for spelled in spelled_descriptors().split(' ') {
         let read = read_descriptor(rt.alloc(), &name(rt.alloc(), spelled)?)?;
-        assert_eq!(rt; read.spell(rt.alloc())?.as_bytes(), spelled.as_bytes());
+        assert_eq!(rt; read.spell(rt.alloc())?, name(rt.alloc(), spelled)?);
     }
     Ok(())
 }
 
 #[test]
 fn parts_of_a_descriptor(rt: HostRuntime) -> Result<(), Fail> {
-    let Descriptor::Method(parameters, result) =
-        read_descriptor(rt.alloc(), &name(rt.alloc(), "(J[ILa/B;)Z")?)?
-    else {
-        return Err(Fail::from("no method"));
-    };
-    assert_eq!(rt; result, Some(FieldType::Bool));
-    assert_eq!(rt; parameters.len(), 3);
-    assert_eq!(rt; parameters[0], FieldType::Long);
-    assert_eq!(rt; parameters[1], FieldType::IntArray);
-    assert_eq!(rt; parameters[2], FieldType::Class(name(rt.alloc(), "a/B")?));
+    let read = read_descriptor(rt.alloc(), &name(rt.alloc(), "(J[I)Z")?)?;
+    match read {
+        Descriptor::Method(parameters, result) => {
+            assert_eq!(rt; result, Some(FieldType::Bool));
+            assert_eq!(rt; parameters.first(), Some(&FieldType::Long));
+            assert_eq!(rt; parameters.last(), Some(&FieldType::IntArray));
+        }
+        Descriptor::Field(_) => return Err(Fail::from("no method")),
+    }
     Ok(())
+}
+
+fn no_descriptors() -> &'static str {
+    " V X B i II I; L L; LA LA;; LA;I L/A; LA/; La//B; La.B; L[I; [ [J [[I [LA; [Ljava/lang/Object ( () \
+     (V)V ()VV ()V; (I (I) )V"
 }
 
 #[test]
 fn texts_that_are_no_descriptor(rt: HostRuntime) -> Result<(), Fail> {
-    let table = " V X B i II I; L L; LA LA;; LA;I L/A; LA/; La//B; La.B; L[I; [ [J [[I [LA; [Ljava/lang/Object ( () \
-                 (V)V ()VV ()V; (I (I) )V";
-    for spelled in table.split(' ') {
+    for spelled in no_descriptors().split(' ') {
         let read = read_descriptor(rt.alloc(), &name(rt.alloc(), spelled)?);
         assert_eq!(rt; read.err(), Some(DescriptorErr::Bad), "at {spelled}");
     }
     Ok(())
 }
 
-/// An entry by its kind, with the parts that it has.
-fn entry(alloc: Global, kind: char, a: &str, b: &str, c: &str) -> Result<Entry, Fail> {
+/// An entry by its kind, with the parts that it has. The descriptor of a member is `I`.
+fn entry(alloc: Global, kind: char, a: &str, b: &str) -> Result<Entry, Fail> {
     match kind {
         'U' => Ok(Entry::Utf8(Text16::of(alloc, a)?)),
         'S' => Ok(Entry::Text(Text16::of(alloc, a)?)),
         'C' => Ok(Entry::Class(name(alloc, a)?)),
         'N' => Ok(Entry::NameAndType(name(alloc, a)?, name(alloc, b)?)),
         'L' => Ok(Entry::Long(-1)),
-        _ => member(kind, name(alloc, a)?, name(alloc, b)?, name(alloc, c)?),
+        _ => member(kind, name(alloc, a)?, name(alloc, b)?, name(alloc, "I")?),
     }
 }
 
@@ -137,29 +149,38 @@ fn adds(rt: &impl Abort, pool: &mut Pool, e: &Entry, index: u16, count: u32) -> 
     Ok(())
 }
 
-/// Worked out by hand: an entry, then each of its parts with its own parts, each where it is new.
+/// Worked out by hand: an entry, then each of its parts with its own parts, each where it is new. A row has the kind,
+/// the parts, the index and the count behind it.
+fn mentioned() -> [(char, &'static str, &'static str, u16, u32); 9] {
+    [
+        ('L', "", "", 1, 3),
+        ('F', "A", "f", 3, 9),
+        ('C', "A", "", 4, 9),
+        ('U', "f", "", 7, 9),
+        ('S', "A", "", 9, 10),
+        ('M', "A", "f", 10, 11),
+        ('N', "g", "f", 11, 13),
+        ('I', "B", "g", 13, 17),
+        ('F', "A", "f", 3, 17),
+    ]
+}
+
 #[test]
 fn parts_stand_behind_their_entry(rt: HostRuntime) -> Result<(), Fail> {
     let mut pool = Pool::new(rt.alloc());
-    assert!(rt; pool.is_empty());
-    let table = [
-        ('L', "", "", "", 1, 3),
-        ('F', "A", "f", "I", 3, 9),
-        ('C', "A", "", "", 4, 9),
-        ('U', "f", "", "", 7, 9),
-        ('S', "A", "", "", 9, 10),
-        ('M', "A", "f", "I", 10, 11),
-        ('N', "g", "f", "", 11, 13),
-        ('I', "B", "g", "f", 13, 16),
-        ('F', "A", "f", "I", 3, 16),
-    ];
-    for (kind, a, b, c, index, count) in table {
-        adds(&rt, &mut pool, &entry(rt.alloc(), kind, a, b, c)?, index, count)?;
+    for (kind, a, b, index, count) in mentioned() {
+        adds(
+            &rt,
+            &mut pool,
+            &entry(rt.alloc(), kind, a, b)?,
+            index,
+            count,
+        )?;
     }
-    for index in [0, 2, 16] {
+    for index in [0, 2, 17] {
         assert_eq!(rt; pool.get(index), None, "at {index}");
     }
-    assert_eq!(rt; pool.len(), 14);
+    assert_eq!(rt; pool.len(), 15);
     assert_eq!(rt; pool.entries().first(), Some(&Entry::Long(-1)));
     Ok(())
 }
@@ -197,8 +218,11 @@ fn the_last_two_indices(rt: HostRuntime) -> Result<(), Fail> {
 fn one_index_is_left(rt: HostRuntime) -> Result<(), Fail> {
     let mut pool = filled(rt.alloc(), 65533)?;
     assert_eq!(rt; pool.add(&Entry::Long(7)), Err(PoolErr::Full));
-    assert_eq!(rt; pool.add(&entry(rt.alloc(), 'C', "A", "", "")?), Err(PoolErr::Full));
+    assert_eq!(rt;
+        pool.add(&entry(rt.alloc(), 'C', "A", "")?),
+        Err(PoolErr::Full)
+    );
     assert_eq!(rt; pool.count(), 65534);
-    assert_eq!(rt; pool.add(&entry(rt.alloc(), 'U', "A", "", "")?), Ok(65534));
+    assert_eq!(rt; pool.add(&entry(rt.alloc(), 'U', "A", "")?), Ok(65534));
     Ok(())
 }

@@ -12,7 +12,7 @@ returns-in_err-found-clause-bad c =
     let p = err_from_is_err_and c.from_residual.result c.from_residual.ensures.1 in
     let apart : begins_with 41 c.types.rest.now ≡ false = sym c.is_closed.ensures.value ∙ c.types-test.true in
     λ bad. not_closed c.types.types.items c.types.rest.now c.args.bytes.now c.types.invariant.types c.types.invariant.read
-        (answers_bad c.in_err-found.field-0.0 (first_type c.types.rest.now) c.in_err-found.ensures (err_is c.from_residual.result p.0 c.in_err-found.field-0.0 p.1 p.2 bad)) apart
+    (answers_bad c.in_err-found.field-0.0 (first_type c.types.rest.now) c.in_err-found.ensures (err_is c.from_residual.result p.0 c.in_err-found.field-0.0 p.1 p.2 bad)) apart
 
 pub types-smaller : goal.types-smaller
 types-smaller c = type_shorter c.types.rest.now c.in_ok-found.behind.now c.in_ok-found.found c.in_ok-found.ensures

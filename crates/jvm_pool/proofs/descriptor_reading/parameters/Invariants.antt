@@ -8,7 +8,7 @@ abbrev pub invariant-types : goal.invariant-types
 invariant-types l = record {
   read : flat_map spelled_type l.types.items ++ l.rest ≡ l.bytes;
   types : All IsFieldType l.types.items;
-  ascii : IsAscii l.rest
+  ascii : IsAscii l.rest;
 }
 
 abbrev pub decreases-types : goal.decreases-types

@@ -7,5 +7,5 @@ use Rattle.jvm_pool.proofs.spelling.put_types.Given as goal
 abbrev pub invariant-loop-parameter : goal.invariant-loop-parameter
 invariant-loop-parameter l = record {
   written : l.into.items ≡ l.initial.into.items ++ flat_map spelled_type (take l.parameter-index l.types);
-  ascii : IsAscii (flat_map spelled_type (take l.parameter-index l.types))
+  ascii : IsAscii (flat_map spelled_type (take l.parameter-index l.types));
 }

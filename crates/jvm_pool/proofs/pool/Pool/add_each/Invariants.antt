@@ -7,5 +7,5 @@ use Rattle.jvm_pool.proofs.pool.Pool.add_each.Given as goal
 abbrev pub invariant-loop-e : goal.invariant-loop-e
 invariant-loop-e l = record {
   left : with_each (into_iter_items l.e-iterator) l.self ≡ with_each l.fn.entries.items l.initial.self;
-  grown : (more : List Entry) × (l.self ≡ l.initial.self ++ more)
+  grown : (more : List Entry) × (l.self ≡ l.initial.self ++ more);
 }
