@@ -8,3 +8,6 @@ pub mod laws;
 pub mod writing;
 
 pub use writing::{put_bytes, put_mention};
+
+#[cfg(test)]
+mod tests;
