@@ -1,5 +1,5 @@
 -- Descriptors: each has one spelling, and each spelling is of one descriptor.
-use Rattle.std.proofs.Common.{◌≡◌, Bor, ℕ, ◌+◌, ◌<◌, ◌≤◌, Bool, true, false, List, [], ◌∷◌, ◌++◌, length, length-append, drop, codes, Option, Some, None, Result, Ok, Err, All, refl, sym, ap, subst, ◌∙◌, append_assoc, arith, true≢false}
+use Rattle.std.proofs.Common.{◌≡◌, Bor, ℕ, ◌<◌, false, List, [], ◌∷◌, ◌++◌, length, length-append, drop, codes, Option, Some, None, Result, Err, All, refl, sym, ap, subst, ◌∙◌, append_assoc, arith, true≢false}
 use Rattle.std.specs.List.{flat_map}
 use Rattle.std.specs.Str.{IsAscii}
 use Rattle.std.proofs.lemmas.List.{append-nil, drop_at, nil_from_length}

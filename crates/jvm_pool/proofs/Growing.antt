@@ -1,14 +1,14 @@
 -- A pool that grows entry by entry.
-use Rattle.std.proofs.Common.{◌≡◌, ℕ, suc, ◌+◌, ◌<◌, Bool, true, false, not, cond, List, [], ◌∷◌, ◌++◌, length, take, Option, Some, None, Result, Ok, Err, is_some, refl, sym, ap, ◌∙◌, append_assoc, arith, true≢false}
-use Rattle.std.specs.Map.{lookup, keys_of, values_of}
-use Rattle.std.proofs.lemmas.List.{append-nil, map_push, take-map, take_at, length-map}
+use Rattle.std.proofs.Common.{◌≡◌, ℕ, suc, ◌+◌, ◌<◌, Bool, true, false, not, List, [], ◌∷◌, ◌++◌, length, take, Option, Some, None, Result, Ok, Err, is_some, refl, sym, ap, ◌∙◌, append_assoc, arith, true≢false}
+use Rattle.std.specs.Map.{keys_of, values_of}
+use Rattle.std.proofs.lemmas.List.{append-nil, map_push, take-map, take_at}
 use Rattle.indexmap.specs.IndexMap.{IndexMap, insert_entry}
 use Rattle.indexmap.proofs.CallerLemmas.{insert_entry-new}
 use Rattle.jvm_pool.specs.declared.entries.Entry.{Entry}
 use Rattle.jvm_pool.specs.declared.errors.PoolErr.{PoolErr}
 use Rattle.jvm_pool.specs.declared.errors.PoolErr.TheVariants.{Full, NoMemory}
 use Rattle.jvm_pool.specs.contracts.entries.EntryPartialEq.TheImpl as derived
-use Rattle.jvm_pool.specs.Entries.{size, behind, same, units}
+use Rattle.jvm_pool.specs.Entries.{size, behind, units}
 use Rattle.jvm_pool.specs.Mentions.{has, seek, with_one, with_each, with_mention}
 use Rattle.jvm_pool.specs.Numbering.{starts, IsNumbered, Grows, GrowsErr}
 use Rattle.jvm_pool.proofs.Order.{each_keeps, seek_past}

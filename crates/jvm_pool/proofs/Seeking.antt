@@ -1,6 +1,5 @@
 -- The map's words in the words of the pool, and the entry that starts at an index.
-use Rattle.std.proofs.Common.{◌≡◌, ℕ, suc, ◌+◌, ◌<◌, ◌≤◌, Bool, true, false, not, cond, eqb, ◌||◌, List, [], ◌∷◌, ◌++◌, length, get_or, Option, Some, None, option_map, slice_get, Result, Ok, Err, is_some, MatchResult, refl, sym, ap, ◌∙◌, true≢false, arith, ◌⊎◌, inl, inr, zero}
-use Rattle.std.specs.List.{list_any}
+use Rattle.std.proofs.Common.{◌≡◌, ℕ, suc, ◌+◌, ◌<◌, ◌≤◌, Bool, true, false, cond, eqb, ◌||◌, List, [], ◌∷◌, length, get_or, Option, Some, None, option_map, slice_get, Result, Ok, Err, is_some, refl, sym, ap, ◌∙◌, arith, ◌⊎◌, inl, inr, zero}
 use Rattle.std.specs.List.Sorted.{IsBinarySearchResult}
 use Rattle.std.specs.Ordering.{nat_cmp}
 use Rattle.std.specs.Result.{result_ok}

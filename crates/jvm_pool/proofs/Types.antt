@@ -1,5 +1,5 @@
 -- A type that is read is spelled so, and a type that is spelled is read.
-use Rattle.std.proofs.Common.{◌≡◌, ℕ, ◌+◌, ◌<◌, ◌≤◌, Bool, true, false, not, cond, eqb, ltb, ◌&&◌, ◌||◌, List, [], ◌∷◌, ◌++◌, length, length-append, get_or, take, drop, codes, Option, Some, None, IsTrue, refl, sym, ap, subst, ◌∙◌, append_assoc, ◌==◌, nat_lt, arith}
+use Rattle.std.proofs.Common.{◌≡◌, ℕ, ◌+◌, ◌<◌, Bool, true, false, not, cond, eqb, List, [], ◌∷◌, ◌++◌, length, length-append, get_or, take, drop, codes, Option, Some, None, refl, sym, ap, subst, ◌∙◌, append_assoc, ◌==◌, nat_lt, arith}
 use Rattle.std.specs.List.{list_all, position, position_or_len}
 use Rattle.std.proofs.lemmas.Bool.{eqb-true, eq-eqb, lt-ltb, and_parts}
 use Rattle.std.proofs.lemmas.Bool.Decides.{nat_tests}
@@ -11,7 +11,7 @@ use Rattle.std.proofs.Math.ListN.{get_or-append}
 use Rattle.jvm_pool.specs.declared.descriptors.FieldType.{FieldType}
 use Rattle.jvm_pool.specs.declared.descriptors.FieldType.TheVariants as type
 use Rattle.jvm_pool.specs.Descriptors.{is_class_name, is_name_byte, spelled_type, IsFieldType}
-use Rattle.jvm_pool.specs.DescriptorReading.{behind_prefix, class_before, first_class, array_of, first_array, base_type, class_type, with_rest, type_behind, first_type}
+use Rattle.jvm_pool.specs.DescriptorReading.{behind_prefix, class_before, first_class, array_of, first_array, base_type, class_type, with_rest, first_type}
 use Rattle.jvm_pool.proofs.Prefixes.{behind_takes}
 use Rattle.jvm_pool.proofs.Fronts.{pair_is}
 

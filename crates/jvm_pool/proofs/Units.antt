@@ -1,8 +1,8 @@
 -- A unit that is read is spelled so, and a unit that is spelled is read.
-use Rattle.std.proofs.Common.{◌≡◌, ℕ, ◌+◌, ◌-◌, ◌*◌, ◌/◌, ◌%◌, ◌^◌, ◌<◌, ◌≤◌, Bool, true, false, cond, eqb, ltb, leb, ◌&&◌, ◌||◌, List, [], ◌∷◌, ◌++◌, length, Option, Some, None, refl, sym, ap, ◌∙◌, append_assoc, arith}
+use Rattle.std.proofs.Common.{◌≡◌, ℕ, ◌^◌, ◌<◌, ◌≤◌, List, [], ◌∷◌, ◌++◌, Some, arith}
 use Rattle.std.proofs.lemmas.Bool.Decides.{nat_tests}
-use Rattle.jvm_pool.specs.Modified.{unit_bytes, modified, IsText}
-use Rattle.jvm_pool.specs.ModifiedReading.{continues, two_byte_unit, three_byte_unit, first_unit}
+use Rattle.jvm_pool.specs.Modified.{unit_bytes}
+use Rattle.jvm_pool.specs.ModifiedReading.{two_byte_unit, three_byte_unit, first_unit}
 
 pub first_unit_again : (u : ℕ) (rest : List ℕ) → u < 2 ^ 16 → first_unit (unit_bytes u ++ rest) ≡ Some (u, rest)
 first_unit_again u rest lt = grind (arith, nat_tests)

@@ -1,5 +1,5 @@
 -- The field type at the front of bytes, and the bytes behind it.
-use Rattle.std.specs.Prelude.{◌≡◌, ℕ, ◌+◌, Bool, false, List, [], ◌∷◌, length, take, drop, Option, Some, None, Result, Ok, Err, ◌==◌, codes, if◌then◌else◌}
+use Rattle.std.specs.Prelude.{◌≡◌, ℕ, ◌+◌, Bool, false, List, [], ◌∷◌, take, drop, Option, Some, None, Result, Ok, Err, ◌==◌, codes, if◌then◌else◌}
 use Rattle.std.specs.List.{position}
 use Rattle.jvm_pool.specs.declared.errors.DescriptorErr.{DescriptorErr}
 use Rattle.jvm_pool.specs.declared.errors.DescriptorErr.TheVariants as error

@@ -1,5 +1,5 @@
 -- Descriptors of fields and methods (JVMS SE 8 §4.3.2, §4.3.3), for the types that the language has.
-use Rattle.std.specs.Prelude.{◌≡◌, ℕ, Bool, not, ◌&&◌, ◌||◌, List, [], ◌∷◌, ◌++◌, length, Option, Some, None, All, IsTrue, nat_lt, ◌==◌, codes}
+use Rattle.std.specs.Prelude.{◌≡◌, ℕ, Bool, not, ◌&&◌, ◌||◌, List, ◌++◌, length, Option, Some, None, All, IsTrue, nat_lt, ◌==◌, codes}
 use Rattle.std.specs.List.{flat_map, list_all, slice_split}
 use Rattle.jvm_pool.specs.declared.descriptors.FieldType.{FieldType}
 use Rattle.jvm_pool.specs.declared.descriptors.FieldType.TheVariants as type

@@ -1,7 +1,6 @@
-use Rattle.std.proofs.Common.{◌≡◌, ◌<◌, List, ℕ, length, Err, arith}
+use Rattle.std.proofs.Common.{◌≡◌, ◌<◌, length, arith}
 use Rattle.std.proofs.lemmas.Bool.Decides.{nat_tests}
 use Rattle.std.proofs.lemmas.Result.{err_from_is_err_and}
-use Rattle.jvm_pool.specs.declared.descriptors.FieldType.{FieldType}
 use Rattle.jvm_pool.specs.DescriptorReading.{first_type}
 use Rattle.jvm_pool.proofs.DescriptorLaws.{answers_bad, err_is, no_type, not_only, only}
 use Rattle.jvm_pool.proofs.descriptor_reading.only_type.Goals as goal

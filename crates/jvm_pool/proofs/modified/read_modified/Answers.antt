@@ -1,7 +1,6 @@
-use Rattle.std.proofs.Common.{◌≡◌, ◌<◌, ◌^◌, ℕ, List, [], ◌∷◌, ◌++◌, length, Some, None, sym, ap, ◌∙◌, arith}
+use Rattle.std.proofs.Common.{◌≡◌, ◌<◌, ◌^◌, length, Some, None, sym, arith}
 use Rattle.std.proofs.lemmas.Bool.Decides.{nat_tests}
 use Rattle.std.proofs.lemmas.List.Elements.{All-push}
-use Rattle.jvm_pool.specs.Modified.{modified, IsText}
 use Rattle.jvm_pool.specs.ModifiedReading.{first_unit}
 use Rattle.jvm_pool.proofs.Texts.{no_text, text_further}
 use Rattle.jvm_pool.proofs.Units.{first_unit_takes}

@@ -1,4 +1,4 @@
-use Rattle.std.proofs.Common.{◌≡◌, ◌<◌, ◌++◌, length, ap, ◌∙◌, sym, append_assoc, arith}
+use Rattle.std.proofs.Common.{◌<◌, length, arith}
 use Rattle.std.proofs.lemmas.Str.{IsAscii-append}
 use Rattle.jvm_pool.proofs.Spelled.{appended, types_more}
 use Rattle.jvm_pool.proofs.spelling.put_types.Goals as goal

@@ -1,7 +1,6 @@
-use Rattle.std.proofs.Common.{◌≡◌, ◌+◌, ◌<◌, ◌++◌, ℕ, List, true, false, length, is_some, Some, sym, ap, ◌∙◌, arith}
+use Rattle.std.proofs.Common.{◌≡◌, ◌+◌, ◌<◌, ℕ, true, false, length, is_some, Some, sym, ap, ◌∙◌, arith}
 use Rattle.std.specs.Map.{keys_of}
 use Rattle.std.proofs.lemmas.List.{length-map}
-use Rattle.jvm_pool.specs.declared.entries.Entry.{Entry}
 use Rattle.jvm_pool.specs.Entries.{units}
 use Rattle.jvm_pool.specs.Mentions.{has, seek, with_mention}
 use Rattle.jvm_pool.proofs.Growing.{mention_known, new_index, grown_front, cut_keys, cut_back}

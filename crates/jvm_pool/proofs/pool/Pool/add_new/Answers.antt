@@ -1,6 +1,5 @@
-use Rattle.std.proofs.Common.{◌≡◌, sym, ap, ◌∙◌}
+use Rattle.std.proofs.Common.{◌≡◌}
 use Rattle.std.proofs.lemmas.Result.{err_from_is_err_and}
-use Rattle.jvm_pool.specs.Mentions.{with_one}
 use Rattle.jvm_pool.proofs.Growing.{new_fails, then_each}
 use Rattle.jvm_pool.proofs.pool.Pool.add_new.Goals as goal
 

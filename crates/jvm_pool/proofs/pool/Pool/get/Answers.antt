@@ -1,4 +1,4 @@
-use Rattle.std.proofs.Common.{◌≡◌, ℕ, Some, ap, sym, ◌∙◌}
+use Rattle.std.proofs.Common.{ℕ, Some, ap, sym, ◌∙◌}
 use Rattle.jvm_pool.specs.Mentions.{seek}
 use Rattle.jvm_pool.proofs.Seeking.{seek_is, start_is, entry_from_seek}
 use Rattle.jvm_pool.proofs.pool.Pool.get.Goals as goal
