@@ -14,7 +14,7 @@ pub name_line : {E : Type 0} {status : ℕ} → status ≡ 7 → (a b c d : Know
 name_line is a b c d {given} name (Err e) x y same z = tt
 name_line is a b c d {given} name (Ok u) x y same z =
     subst (λ s. Appends a d (status_line s name)) (sym is)
-        (appends_more a c d (codes "ktrun: cannot read " ++ name) (10 ∷ []) (appends_more a b c (codes "ktrun: cannot read ") name x (subst (Appends b c) same y)) z)
+    (appends_more a c d (codes "ktrun: cannot read " ++ name) (10 ∷ []) (appends_more a b c (codes "ktrun: cannot read ") name x (subst (Appends b c) same y)) z)
 
 -- the line was taken, or the stream failed
 pub taken_or_risen : {E : Type 0} (r : Result Unit E) (A B : Type 0) → OnOk r A → OnErr r B → A ⊎ B

@@ -32,15 +32,15 @@ pub run_ends : (source : List ℕ) (p : Program) → IsFirst source p → (choic
 run_ends source p is choices text written chosen =
     let values = values_of p in
     record {
-        program = p;
-        history = onto [] values;
-        halts = (0, halt.Ended end.Returned) ∷ [];
-        source_is = is;
-        played = ap (Rattle.kt_base.specs.World.world (Rattle.ktrun.specs.FirstRuns.meaning_of values) numbers) chosen ∙ prints_all numbers values;
-        final = finishes numbers values;
-        text_is = written ∙ sym (writes [] values);
-        report_is = refl;
-        status_is = refl
+      program = p;
+      history = onto [] values;
+      halts = (0, halt.Ended end.Returned) ∷ [];
+      source_is = is;
+      played = ap (Rattle.kt_base.specs.World.world (Rattle.ktrun.specs.FirstRuns.meaning_of values) numbers) chosen ∙ prints_all numbers values;
+      final = finishes numbers values;
+      text_is = written ∙ sym (writes [] values);
+      report_is = refl;
+      status_is = refl;
     }
 
 -- what was read is what the file is told to hold

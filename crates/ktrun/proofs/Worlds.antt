@@ -50,9 +50,9 @@ prints_next : (numbers : ℕ) (done : List ℤ) (n : ℤ) (values : List ℤ) (h
     → step (meaning_of (done ++ n ∷ values)) numbers history 0 ≡ Some (entry n)
 prints_next numbers done n values history began answered =
     let asked : next_event (meaning_of (done ++ n ∷ values)) start.Main (answers_of 0 history) ≡ Some (print_of n) =
-        ap (λ (l : Answers). next_event (meaning_of (done ++ n ∷ values)) start.Main l) answered ∙ asks done n values in
+    ap (λ (l : Answers). next_event (meaning_of (done ++ n ∷ values)) start.Main l) answered ∙ asks done n values in
     ap (λ o. option_and_then (λ start. option_and_then (λ asked. option_map (λ answered. record { coroutine = 0; asked = asked; answered = answered })
-        (reply numbers history asked)) (next_event (meaning_of (done ++ n ∷ values)) start (answers_of 0 history))) o) began
+    (reply numbers history asked)) (next_event (meaning_of (done ++ n ∷ values)) start (answers_of 0 history))) o) began
     ∙ ap (λ o. option_and_then (λ asked. option_map (λ answered. record { coroutine = 0; asked = asked; answered = answered }) (reply numbers history asked)) o) asked
 
 -- the rest of the values is printed
@@ -91,9 +91,9 @@ returned numbers values =
     let done : (course_of values (answers_of 0 history)).end ≡ Some end.Returned = ap (λ (l : Answers). (course_of values l).end) (answered_all [] values) ∙ ends values in
     let asked = next_event program start.Main (answers_of 0 history) in
     ap (λ o. option_and_then (λ start.
-        let answers = answers_of 0 history in
-        let asked = next_event program start answers in
-        stands (program start answers).end asked (option_and_then (reply numbers history) asked)) o) (begins [] values)
+    let answers = answers_of 0 history in
+    let asked = next_event program start answers in
+    stands (program start answers).end asked (option_and_then (reply numbers history) asked)) o) (begins [] values)
     ∙ ap (λ (o : Option End). stands o asked (option_and_then (reply numbers history) asked)) done
 
 -- no coroutine can go on

@@ -9,9 +9,8 @@ mod words;
 
 use kt_outside::{RealFiles, RealSink};
 use plain::plain_main;
-use std::env;
-use std::io;
 use std::process::ExitCode;
+use std::{env, io};
 
 fn main(rt: HostRuntime) -> io::Result<ExitCode> {
     let alloc = rt.alloc();
@@ -22,3 +21,6 @@ fn main(rt: HostRuntime) -> io::Result<ExitCode> {
     let outcome = plain_main(alloc, words.as_slice(), &mut files, &mut out, &mut err);
     Ok(ExitCode::from(outcome.status))
 }
+
+#[cfg(test)]
+mod tests;

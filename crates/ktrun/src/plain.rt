@@ -65,7 +65,10 @@ pub fn plain_main<F: Files, O: Sink, E: Sink>(
         }
         None => {
             let _ = write_line(err, USAGE, "");
-            Outcome { status: USAGE, choices: Vec::new(alloc) }
+            Outcome {
+                status: USAGE,
+                choices: Vec::new(alloc),
+            }
         }
     }
 }
@@ -86,7 +89,10 @@ fn run_named<F: Files, O: Sink>(alloc: Global, name: &str, files: &mut F, out: &
 {
     match run_file(alloc, name, files) {
         Ok(run) => deliver(out, run),
-        Err(stop) => Outcome { status: status_of(stop), choices: Vec::new(alloc) },
+        Err(stop) => Outcome {
+            status: status_of(stop),
+            choices: Vec::new(alloc),
+        },
     }
 }
 
@@ -102,7 +108,10 @@ fn deliver<O: Sink>(out: &mut O, run: Finished) -> Outcome
         Ok(()) => DONE,
         Err(Failed) => WRITE_FAULT,
     };
-    Outcome { status, choices: run.choices }
+    Outcome {
+        status,
+        choices: run.choices,
+    }
 }
 
 /// The status of a file that wasn't run.

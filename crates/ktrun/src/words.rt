@@ -10,8 +10,7 @@ pub fn file_to_run(words: &[String]) -> Option<&str>
 {
     match words {
         [mode, name, options @ ..]
-            if mode.as_str() == "run" && is_name(name.as_str()) && is_one_worker(options) =>
-        {
+            if mode.as_str() == "run" && is_name(name.as_str()) && is_one_worker(options) => {
             Some(name.as_str())
         }
         _ => None,

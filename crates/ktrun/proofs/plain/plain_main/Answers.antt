@@ -8,5 +8,5 @@ use Rattle.ktrun.proofs.plain.plain_main.Goals as goal
 pub returns-in-Some-clause-line : goal.returns-in-Some-clause-line
 returns-in-Some-clause-line g c =
     subst (λ (name : List ℕ). Appends (g.E.Sink.taken c.args.err.now) (g.E.Sink.taken c.write_line.new.err) (status_line c.run_named-outcome.result.status name) ⊎ Rose (g.E.Sink.faults c.args.err.now) (g.E.Sink.faults c.write_line.new.err))
-        (sym (ap name_of c.in-Some.ensures))
-        (taken_or_risen c.write_line.result _ _ c.write_line.ensures.all c.write_line.ensures.failed)
+    (sym (ap name_of c.in-Some.ensures))
+    (taken_or_risen c.write_line.result _ _ c.write_line.ensures.all c.write_line.ensures.failed)

@@ -5,7 +5,7 @@ use Rattle.ktrun.proofs.running.run_file.Goals as goal
 pub returns-clause-ran : goal.returns-clause-ran
 returns-clause-ran g c =
     read_ran (g.F.Files.held c.args.files.now) c.args.name.now c.as_slice.result.now c.run_text.result
-        (λ bytes holds. told bytes (c.in_ok-read.ensures.whole bytes holds) c.new-source.ensures.items c.as_slice.ensures.value) c.run_text.ensures.ran
+    (λ bytes holds. told bytes (c.in_ok-read.ensures.whole bytes holds) c.new-source.ensures.items c.as_slice.ensures.value) c.run_text.ensures.ran
 
 pub returns-clause-not_built : goal.returns-clause-not_built
 returns-clause-not_built g c = λ is.

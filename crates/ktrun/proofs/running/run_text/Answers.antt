@@ -18,4 +18,4 @@ returns-clause-ran c =
     let ran = c.in_ok-run_code.ensures in
     let same : ran.0 ≡ values_of read.0 = prints_one c.as_slice.result.now ran.0 (values_of read.0) ran.1 prints in
     run_ends c.args.source.now read.0 read.1 c.in_ok-run_code.field-0.choices.items c.in_ok-run_code.field-0.text.items
-        (ran.2 ∙ ap (λ (l : List ℤ). text_of l) same) (ran.3 ∙ ap (λ (l : List ℤ). map {A = ℤ} {B = ℕ} (λ _. 0) l) same)
+    (ran.2 ∙ ap (λ (l : List ℤ). text_of l) same) (ran.3 ∙ ap (λ (l : List ℤ). map {A = ℤ} {B = ℕ} (λ _. 0) l) same)
