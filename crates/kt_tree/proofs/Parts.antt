@@ -1,5 +1,5 @@
 -- The level that the parts of a string make.
-use Rattle.std.proofs.Common.{◌≡◌, ◌<◌, ◌≤◌, ℕ, List, [], ◌∷◌, length, map, refl, arith}
+use Rattle.std.proofs.Common.{◌≡◌, ◌<◌, ◌≤◌, List, [], ◌∷◌, length, map, refl, arith}
 use Rattle.kt_tree.specs.declared.bodies.StringPart.{StringPart}
 use Rattle.kt_tree.specs.Bodies.{part_tree, parts_of}
 use Rattle.kt_tree.specs.declared.bodies.TextPart.{TextPart}

@@ -1,8 +1,6 @@
 -- Declarations and files as definitions match on them.
-use Rattle.std.specs.Prelude.{ℕ, Bool, List, Option, Some, None, map, option_map}
+use Rattle.std.specs.Prelude.{ℕ, Bool, List, Option, Some, None, map}
 use Rattle.kt_base.specs.declared.refusals.Pos.{Pos}
-use Rattle.kt_tree.specs.declared.bodies.Literal.{Literal}
-use Rattle.kt_tree.specs.declared.bodies.TextPart.{TextPart}
 use Rattle.kt_tree.specs.declared.declarations.FileTree.{FileTree}
 use Rattle.kt_tree.specs.declared.declarations.Declaration.{Declaration}
 use Rattle.kt_tree.specs.declared.declarations.Declaration.TheVariants as d
@@ -26,7 +24,7 @@ use Rattle.kt_tree.specs.declared.declarations.EnumDeclaration.{EnumDeclaration}
 use Rattle.kt_tree.specs.declared.declarations.ConstantDeclaration.{ConstantDeclaration}
 use Rattle.kt_tree.specs.declared.declarations.ConstantValue.{ConstantValue}
 use Rattle.kt_tree.specs.Types.{TypeTree, type_tree, maybe_type}
-use Rattle.kt_tree.specs.Bodies.{ExpressionTree, BlockTree, ParameterTree, expression_tree, block_tree}
+use Rattle.kt_tree.specs.Bodies.{ExpressionTree, BlockTree, expression_tree, block_tree}
 
 -- a type parameter
 pub record TypeParameterTree : Type 0 where

@@ -38,11 +38,7 @@ pub enum ExpressionKind {
     Index(Boxed<Expression>, Boxed<Expression>),
     /// A call: what is called, the type arguments, and the arguments, of which a lambda behind the call is the last.
     Call(Boxed<Expression>, Items<TypeReference>, Items<Expression>),
-    If(
-        Boxed<Expression>,
-        ControlStructureBody,
-        Option<ControlStructureBody>,
-    ),
+    If(Boxed<Expression>, ControlStructureBody, Option<ControlStructureBody>),
     /// The subject, where there is one, and the entries.
     When(Option<Boxed<Expression>>, Items<WhenEntry>),
     /// The block, the catch blocks, and the block of `finally`.
@@ -206,13 +202,7 @@ pub enum StatementKind {
     While(Boxed<Expression>, ControlStructureBody),
     DoWhile(Block, Boxed<Expression>),
     /// The variable, the first value, the operator, the bound, and the body.
-    For(
-        Name,
-        Boxed<Expression>,
-        RangeOperator,
-        Boxed<Expression>,
-        ControlStructureBody,
-    ),
+    For(Name, Boxed<Expression>, RangeOperator, Boxed<Expression>, ControlStructureBody),
     Evaluate(Boxed<Expression>),
 }
 

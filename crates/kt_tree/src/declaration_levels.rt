@@ -170,7 +170,10 @@ fn member_levels(member: &ClassMember) -> u32
     match member {
         ClassMember::Method(function) => function.levels(),
         ClassMember::Property(property) => {
-            property.annotation.levels().max(property.initializer.levels())
+            property
+                .annotation
+                .levels()
+                .max(property.initializer.levels())
         }
     }
 }

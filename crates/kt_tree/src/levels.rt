@@ -239,7 +239,11 @@ fn catches_levels(catches: &[CatchBlock]) -> u32
 {
     let mut most = 0;
     for catch in catches {
-        most = catch.exception.levels().max(catch.body.levels() + 1).max(most);
+        most = catch
+            .exception
+            .levels()
+            .max(catch.body.levels() + 1)
+            .max(most);
     }
     most
 }
@@ -289,12 +293,18 @@ impl Statement {
                 target.get().levels().max(value.get().levels()) + 1
             }
             StatementKind::Step(target, _) => target.get().levels() + 1,
-            StatementKind::While(condition, body) => condition.get().levels().max(body.levels()) + 1,
+            StatementKind::While(condition, body) => condition.get().levels().max(body.levels())
+                + 1,
             StatementKind::DoWhile(block, condition) => {
                 block.levels().max(condition.get().levels()) + 1
             }
             StatementKind::For(_, first, _, bound, body) => {
-                first.get().levels().max(bound.get().levels()).max(body.levels()) + 1
+                first
+                    .get()
+                    .levels()
+                    .max(bound.get().levels())
+                    .max(body.levels())
+                    + 1
             }
             StatementKind::Evaluate(value) => value.get().levels(),
         }

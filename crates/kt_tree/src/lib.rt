@@ -25,3 +25,6 @@ pub use declarations::{
 };
 pub use tokens::{Keyword, Number, Sign, SoftKeyword, Token, TokenKind};
 pub use types::TypeReference;
+
+#[cfg(test)]
+mod tests;
