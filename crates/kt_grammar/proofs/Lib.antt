@@ -1,0 +1,8 @@
+pub mod Ends
+pub mod Correct
+pub mod Bind
+pub mod Steps
+pub mod Skip
+pub mod On
+pub mod Attempt
+pub mod Repeat
