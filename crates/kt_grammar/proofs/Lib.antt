@@ -6,3 +6,4 @@ pub mod Skip
 pub mod On
 pub mod Attempt
 pub mod Repeat
+pub mod Whole

@@ -1,2 +1,3 @@
 pub mod Parsers
 pub mod Phrases
+pub mod Sentences
