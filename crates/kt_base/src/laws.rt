@@ -6,11 +6,9 @@ ghost use Rattle.kt_base.specs.World.{PlaysLegally};
 /// A text of characters, as UTF-16 and then as UTF-8, is the text as UTF-8.
 pub fn utf8_of_utf16()
     ensures { RoundTrip }
-{
-}
+{}
 
 /// The world of each list of choices is legal.
 pub fn worlds_are_legal()
     ensures { PlaysLegally }
-{
-}
+{}

@@ -5,7 +5,7 @@ use Rattle.kt_base.proofs.texts.put_units.Given as goal
 abbrev pub invariant-loop-rest : goal.invariant-loop-rest
 invariant-loop-rest l = record {
   written : l.into.items ++ utf8_of l.rest ≡ l.initial.into.items ++ utf8_of l.units;
-  kept : (written : List ℕ) × (l.into.items ≡ l.initial.into.items ++ written)
+  kept : (written : List ℕ) × (l.into.items ≡ l.initial.into.items ++ written);
 }
 
 abbrev pub decreases-loop-rest : goal.decreases-loop-rest
