@@ -4,3 +4,6 @@ pub mod Sentences
 pub mod Terminals
 pub mod Words
 pub mod Types
+pub mod Levels
+pub mod Expressions
+pub mod Statements

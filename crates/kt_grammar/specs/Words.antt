@@ -105,3 +105,8 @@ Items close Item = Seq IsSeparators (λ _. Loop (ItemTurn close Item) [])
 -- no line ends
 abbrev pub Directly : Unit {0} → List Token → List Token → Type 0
 Directly = IsNothing tt
+
+-- nothing is read; a token that passes the test comes next
+pub record IsAhead (test : Token → Bool) (a : Unit {0}) (u rest : List Token) : Type 0 where
+  pub none : u ≡ []
+  pub next : first test rest ≡ true
