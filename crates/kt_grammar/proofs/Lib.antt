@@ -7,3 +7,4 @@ pub mod On
 pub mod Attempt
 pub mod Repeat
 pub mod Whole
+pub mod Forms

@@ -52,3 +52,64 @@ FirstOf K L M b u rest = Seq K L b u rest ⊎ (M b u rest × NotReads K (u ++ re
 pub data Loop {T S B : Type 0} (Turn : S → S ⊎ B → List T → List T → Type 0) : S → B → List T → List T → Type 0 where
   ends : {x : S} {b : B} {u rest : List T} → Turn x (inr b) u rest → Loop Turn x b u rest
   turns : {x y : S} {b : B} {u v w rest : List T} → Turn x (inl y) v (w ++ rest) → Loop Turn y b w rest → u ≡ v ++ w → Loop Turn x b u rest
+
+-- nothing is read; a token that passes the test comes next
+pub record IsAhead {T : Type 0} (test : T → Bool) (a : Unit {0}) (u rest : List T) : Type 0 where
+  pub none : u ≡ []
+  pub next : first test rest ≡ true
+
+-- where a condition holds the one, else the other
+abbrev pub If : {T A : Type 0} → Bool → (A → List T → List T → Type 0) → (A → List T → List T → Type 0) → A → List T → List T → Type 0
+If b L M a u rest = ((b ≡ true) × L a u rest) ⊎ ((b ≡ false) × M a u rest)
+
+-- a part that may be absent: where K stands it is read, and goes on as L says; elsewhere M
+abbrev pub Where : {T A B : Type 0} → (A → List T → List T → Type 0) → (A → B → List T → List T → Type 0) → (B → List T → List T → Type 0) → B → List T → List T → Type 0
+Where K L M = FirstOf K L M
+
+-- the same, where there is room for it
+abbrev pub WhereRoom : {T A B : Type 0} → Bool → (A → List T → List T → Type 0) → (A → B → List T → List T → Type 0) → (B → List T → List T → Type 0) → B → List T → List T → Type 0
+WhereRoom room K L M = If room (FirstOf K L M) M
+
+-- ---- lists
+
+-- ',' item, or the token that ends the list
+abbrev pub CommaTurn : {T A : Type 0} → (T → Bool) → (T → Bool) → (A → List T → List T → Type 0) → List A → List A ⊎ List A → List T → List T → Type 0
+CommaTurn comma close Item xs = Either (Seq (IsToken comma) (λ _. Seq Item (λ x. IsNothing (inl (xs ++ x ∷ []))))) (Seq (IsToken close) (λ _. IsNothing (inr xs)))
+
+-- item (',' item)* close
+abbrev pub CommaList : {T A : Type 0} → (T → Bool) → (T → Bool) → (A → List T → List T → Type 0) → List A → List T → List T → Type 0
+CommaList comma close Item = Seq Item (λ x. Loop (CommaTurn comma close Item) (x ∷ []))
+
+-- (item (',' item)*)? close
+abbrev pub MaybeCommaList : {T A : Type 0} → (T → Bool) → (T → Bool) → (A → List T → List T → Type 0) → List A → List T → List T → Type 0
+MaybeCommaList comma close Item = Either (Seq (IsToken close) (λ _. IsNothing [])) (CommaList comma close Item)
+
+-- lead ',' lines item, as long as a comma follows
+abbrev pub MoreTurn : {T A : Type 0} → (Unit {0} → List T → List T → Type 0) → (T → Bool) → (T → Bool) → (A → List T → List T → Type 0) → List A → List A ⊎ List A → List T → List T → Type 0
+MoreTurn Lead comma line Item xs = FirstOf (Seq Lead (λ _. IsToken comma)) (λ _. Seq (IsSkipped line) (λ _. Seq Item (λ x. IsNothing (inl (xs ++ x ∷ []))))) (IsNothing (inr xs))
+
+-- item (lead ',' lines item)*
+abbrev pub Several : {T A : Type 0} → (Unit {0} → List T → List T → Type 0) → (T → Bool) → (T → Bool) → (A → List T → List T → Type 0) → List A → List T → List T → Type 0
+Several Lead comma line Item = Seq Item (λ x. Loop (MoreTurn Lead comma line Item) (x ∷ []))
+
+-- what stands behind an item: separators, or nothing where the closing token comes next
+abbrev pub IsGap : {T : Type 0} → (T → Bool) → (T → Bool) → Unit {0} → List T → List T → Type 0
+IsGap separator close = Either (Seq (IsToken separator) (λ _. IsSkipped separator)) (IsAhead close)
+
+-- an item and the gap behind it, or the closing token
+abbrev pub ItemTurn : {T A : Type 0} → (T → Bool) → (T → Bool) → (A → List T → List T → Type 0) → List A → List A ⊎ (List A × T) → List T → List T → Type 0
+ItemTurn separator close Item xs = Either (Seq (IsToken close) (λ t. IsNothing (inr (xs, t)))) (Seq Item (λ x. Seq (IsGap separator close) (λ _. IsNothing (inl (xs ++ x ∷ [])))))
+
+-- separators, the items, and the closing token
+abbrev pub Items : {T A : Type 0} → (T → Bool) → (T → Bool) → (A → List T → List T → Type 0) → List A × T → List T → List T → Type 0
+Items separator close Item = Seq (IsSkipped separator) (λ _. Loop (ItemTurn separator close Item) [])
+
+-- ---- chains
+
+-- operator lines operand, as long as an operator follows and there is room
+abbrev pub ChainTurn : {T A O : Type 0} → (A → Bool) → (O → List T → List T → Type 0) → (T → Bool) → (A → List T → List T → Type 0) → (O → A → A → A) → A → A ⊎ A → List T → List T → Type 0
+ChainTurn room Operator line Operand build a = WhereRoom (room a) Operator (λ o. Seq (IsSkipped line) (λ _. Seq Operand (λ b. IsNothing (inl (build o a b))))) (IsNothing (inr a))
+
+-- operand (operator lines operand)*, grouped to the left
+abbrev pub Chain : {T A O : Type 0} → (A → Bool) → (A → List T → List T → Type 0) → (O → List T → List T → Type 0) → (T → Bool) → (A → List T → List T → Type 0) → (O → A → A → A) → A → List T → List T → Type 0
+Chain room First Operator line Operand build = Seq First (λ a. Loop (ChainTurn room Operator line Operand build) a)

@@ -7,9 +7,9 @@ use Rattle.kt_tree.specs.Tokens.{is_sign}
 use Rattle.kt_tree.specs.Bodies as e
 use Rattle.kt_tree.specs.Bodies.{ExpressionTree, StatementTree, BodyTree, EntryTree, ConditionTree, CatchTree, conditions_of, maybe_expression}
 use Rattle.kt_grammar.specs.Parsers.{first}
-use Rattle.kt_grammar.specs.Phrases.{Seq, Either}
+use Rattle.kt_grammar.specs.Phrases.{Seq, Either, If, Where, WhereRoom}
 use Rattle.kt_grammar.specs.Terminals.{name_of, variable_of, assignment_of, step_of, range_of, type_check_of}
-use Rattle.kt_grammar.specs.Words.{Empty, Gives, IsSign, IsKeyword, IsIdentifier, IsMeant, IsLines, IsPast, If, Where, WhereRoom, Maybe, Several, Directly}
+use Rattle.kt_grammar.specs.Words.{Empty, Gives, IsSign, IsKeyword, IsIdentifier, IsMeant, IsLines, IsPast, Maybe, Several, Directly}
 use Rattle.kt_grammar.specs.Types.{IsType}
 use Rattle.kt_grammar.specs.Levels.{Context, Phrases, none, place, is_target}
 use Rattle.kt_grammar.specs.Expressions as x

@@ -6,8 +6,8 @@ use Rattle.kt_tree.specs.declared.tokens.SoftKeyword.TheVariants as soft
 use Rattle.kt_tree.specs.Tokens.{is_sign, is_soft_keyword}
 use Rattle.kt_tree.specs.Types.{TypeTree, named, function, nullable, parenthesized, types_of}
 use Rattle.kt_grammar.specs.Parsers.{first}
-use Rattle.kt_grammar.specs.Phrases.{Seq, Either}
-use Rattle.kt_grammar.specs.Words.{Spells, Empty, Gives, IsSign, IsSoftKeyword, IsIdentifier, Where, CommaList, MaybeCommaList}
+use Rattle.kt_grammar.specs.Phrases.{Seq, Either, Where, IsAhead}
+use Rattle.kt_grammar.specs.Words.{Spells, Empty, Gives, IsSign, IsSoftKeyword, IsIdentifier, CommaList, MaybeCommaList}
 use Rattle.kt_grammar.specs.Terminals.{name_of}
 
 -- over the types that have one level less
@@ -25,9 +25,9 @@ module _ (Part : TypeTree → List Token → List Token → Type 0) where
   abbrev pub IsArrow : Bool → TypeTree → List Token → List Token → Type 0
   IsArrow suspends = Seq (IsSign sign.OpenParenthesis) (λ _. Seq (MaybeCommaList (is_sign sign.CloseParenthesis) Part) (λ ts. Seq (IsSign sign.Arrow) (λ _. Seq Part (λ t. Gives (function suspends (types_of ts) t)))))
 
-  -- 'suspend'? '(' (type (',' type)*)? ')' '->' type
-  abbrev pub IsFunctionType : TypeTree → List Token → List Token → Type 0
-  IsFunctionType = Either (Seq (IsSoftKeyword soft.Suspend) (λ _. IsArrow true)) (IsArrow false)
+  -- 'suspend', where '(' follows
+  abbrev pub IsSuspend : Token → List Token → List Token → Type 0
+  IsSuspend = Seq (IsSoftKeyword soft.Suspend) (λ t. Seq (IsAhead (is_sign sign.OpenParenthesis)) (λ _. Gives t))
 
   -- '(' type ')'
   -- Where `->` follows it is no type in parentheses, but begins a function type.
@@ -38,10 +38,10 @@ module _ (Part : TypeTree → List Token → List Token → Type 0) where
   abbrev pub IsMaybeNullable : TypeTree → TypeTree → List Token → List Token → Type 0
   IsMaybeNullable t = Where (IsSign sign.Question) (λ _. Gives (nullable t)) (Gives t)
 
-  -- type : atom '?'?      atom : function | ID targs? | '(' type ')'
+  -- type : atom '?'?      atom : 'suspend'? '(' (type (',' type)*)? ')' '->' type | ID targs? | '(' type ')'
   -- A function type takes no `?` of its own. Where `(` follows `suspend`, it is no name.
   abbrev pub IsTypeOver : TypeTree → List Token → List Token → Type 0
-  IsTypeOver t u rest = IsFunctionType t u rest ⊎ Seq (Either IsNamedType IsParenthesizedType) IsMaybeNullable t u rest
+  IsTypeOver = Where IsSuspend (λ _. IsArrow true) (Either (IsArrow false) (Seq (Either IsNamedType IsParenthesizedType) IsMaybeNullable))
 
 -- types of at most so many levels
 unfoldable pub IsType : ℕ → TypeTree → List Token → List Token → Type 0
