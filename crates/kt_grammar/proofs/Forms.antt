@@ -104,7 +104,6 @@ attempt_if_correct false p go other K L M NK N P Q = correct other (WhereRoom fa
 module _ {T A : Type 0} (comma close : T → Bool) (a-comma a-close : T) (is-comma : comma a-comma ≡ true) (is-close : close a-close ≡ true) (apart : (t : T) → close t ≡ true → comma t ≡ false)
     (item : Parser T A) (Item : A → List T → List T → Type 0) (N : A → List T → Type 0) (I : Correct item Item Any N) (some : Phrase Item N)
     (closes : (a : A) (tail : List T) → first close tail ≡ true → N a tail) where
-
   -- a comma's turn is followed by the closing token
   CommaEnd : List A ⊎ List A → List T → Type 0
   CommaEnd (inl xs) tail = first close tail ≡ true
@@ -171,7 +170,6 @@ module _ {T O A S B : Type 0} (line : T → Bool) (r : Parser T O) (K : O → Li
     (item : Parser T A) (Item : A → List T → List T → Type 0) (N : A → List T → Type 0) (I : Correct item Item Any N) (some : Phrase Item N)
     (no_line : (a : A) (u rest : List T) → Item a u rest → first line (u ++ rest) ≡ false)
     (Stop : List T → Type 0) (stop_item : (a : A) (tail : List T) → Stop tail → N a tail) (stop_reads : (tail : List T) → Stop tail → NotReads K tail) where
-
   abbrev pub StopTurn : S ⊎ B → List T → Type 0
   StopTurn f tail = Stop tail
 
@@ -181,15 +179,25 @@ module _ {T O A S B : Type 0} (line : T → Bool) (r : Parser T O) (K : O → Li
   operand_correct : (build : A → S) → Correct (skip line >> (item >>= (λ x. pure (inl (build x))))) (Seq (IsSkipped line) (λ _. Operand build)) Any StopTurn
   operand_correct build = bind_correct (skip line) (λ _. item >>= (λ x. pure (inl (build x)))) (IsSkipped line) (λ _. Operand build) Any (NoneOf line) Any StopTurn (skip_correct line Any (NoneOf line) (λ rest h. h))
       (λ a. gives_correct item (λ x. inl (build x)) Item N StopTurn I (λ a tail h. stop_item a tail h)) (λ a b u rest l h. tt)
-      (λ a u l. record { whole = inl (build some.whole); tokens = some.tokens; phrase = λ tail h.
-          let p = some.phrase tail (stop_item some.whole tail h) in
-          (record { value = some.whole; front = some.tokens; back = []; is = sym (append-nil some.tokens); phrase = p; phrase' = record { value = refl; none = refl } }, no_line some.whole some.tokens tail p) })
+      (λ a u l. record {
+        whole = inl (build some.whole);
+        tokens = some.tokens;
+        phrase = λ tail h.
+            let p = some.phrase tail (stop_item some.whole tail h) in
+            (record { value = some.whole; front = some.tokens; back = []; is = sym (append-nil some.tokens); phrase = p; phrase' = record { value = refl; none = refl } }, no_line some.whole some.tokens tail p);
+      })
 
   operand_phrase : (build : A → S) (tail : List T) → Stop tail → Seq (IsSkipped line) (λ _. Operand build) (inl (build some.whole)) some.tokens tail
   operand_phrase build tail h =
       let p = some.phrase tail (stop_item some.whole tail h) in
-      record { value = tt; front = []; back = some.tokens; is = refl; phrase = record { pass = tt; all = no_line some.whole some.tokens tail p };
-        phrase' = record { value = some.whole; front = some.tokens; back = []; is = sym (append-nil some.tokens); phrase = p; phrase' = record { value = refl; none = refl } } }
+      record {
+        value = tt;
+        front = [];
+        back = some.tokens;
+        is = refl;
+        phrase = record { pass = tt; all = no_line some.whole some.tokens tail p };
+        phrase' = record { value = some.whole; front = some.tokens; back = []; is = sym (append-nil some.tokens); phrase = p; phrase' = record { value = refl; none = refl } };
+      }
 
   abbrev Further : (O → A → S) → B → S ⊎ B → List T → List T → Type 0
   Further build b = FirstOf K (λ o. Seq (IsSkipped line) (λ _. Operand (build o))) (IsNothing (inr b))
@@ -206,7 +214,6 @@ module _ {T A : Type 0} (lead : Parser T (Unit {0})) (Lead : Unit {0} → List T
     (item : Parser T A) (Item : A → List T → List T → Type 0) (N : A → List T → Type 0) (I : Correct item Item Any N) (some : Phrase Item N)
     (no_line : (a : A) (u rest : List T) → Item a u rest → first line (u ++ rest) ≡ false)
     (Stop : List T → Type 0) (stop_item : (a : A) (tail : List T) → Stop tail → N a tail) (stop_reads : (tail : List T) → Stop tail → NotReads (Seq Lead (λ _. IsToken comma)) tail) where
-
   abbrev SeveralEnd : List A → List T → Type 0
   SeveralEnd xs tail = Stop tail
 
@@ -235,7 +242,6 @@ module _ {T A O : Type 0} (room : A → Bool) (operator : Parser T O) (K : O →
     (operand : Parser T A) (Item : A → List T → List T → Type 0) (N : A → List T → Type 0) (I : (a : A) → room a ≡ true → Correct operand Item Any N) (some : (a : A) → room a ≡ true → Phrase Item N)
     (no_line : (a : A) (u rest : List T) → Item a u rest → first line (u ++ rest) ≡ false) (build : O → A → A → A)
     (Stop : List T → Type 0) (stop_first : (a : A) (tail : List T) → Stop tail → N-first a tail) (stop_item : (a : A) (tail : List T) → Stop tail → N a tail) (stop_reads : (tail : List T) → Stop tail → NotReads K tail) where
-
   abbrev ChainEnd : A → List T → Type 0
   ChainEnd a tail = Stop tail
 
@@ -247,11 +253,11 @@ module _ {T A O : Type 0} (room : A → Bool) (operator : Parser T O) (K : O →
       (λ h. further_correct line operator K R operand Item N (I a h) (some a h) no_line Stop stop_item stop_reads (λ o b. build o a b) a) (pure_correct (inr a) Any LinkEnd)
 
   link_eats : (a b : A) (u rest : List T) → ChainTurn room K line Item build a (inl b) u rest → 0 < length u
-  link_eats a b u rest (inl x) = elim x.1 [ | inl s ↦ omega (arith, ap length s.is, length-append s.front s.back, k_eats s.value s.front (s.back ++ rest) s.phrase) | inr m ↦ absurd (let e : inl b ≡ inr a = m.0.value in cc) ]
+  link_eats a b u rest (inl x) = elim x.1 [ inl s ↦ omega (arith, ap length s.is, length-append s.front s.back, k_eats s.value s.front (s.back ++ rest) s.phrase) | inr m ↦ absurd (let e : inl b ≡ inr a = m.0.value in cc) ]
   link_eats a b u rest (inr x) = absurd (let e : inl b ≡ inr a = x.1.value in cc)
 
   chain_ends : (a : A) (tail : List T) → Stop tail → ChainTurn room K line Item build a (inr a) [] tail
-  chain_ends a tail h = elim (truth (room a)) [ | inl y ↦ inl (y, inr (record { value = refl; none = refl }, stop_reads tail h)) | inr n ↦ inr (n, record { value = refl; none = refl }) ]
+  chain_ends a tail h = elim (truth (room a)) [ inl y ↦ inl (y, inr (record { value = refl; none = refl }, stop_reads tail h)) | inr n ↦ inr (n, record { value = refl; none = refl }) ]
 
   chain_stops : (a : A) → Completion LinkEnd (inl a) (Loop (ChainTurn room K line Item build) a) ChainEnd
   chain_stops a = record { whole = a; tokens = []; phrase = λ tail h. (ends (chain_ends a tail h), h) }
@@ -270,7 +276,6 @@ module _ {T A : Type 0} (separator close : T → Bool) (a-separator a-close : T)
     (eats : (a : A) (u rest : List T) → Item a u rest → 0 < length u)
     (no_close : (a : A) (u rest : List T) → Item a u rest → first close (u ++ rest) ≡ false)
     (closes : (a : A) (tail : List T) → first close tail ≡ true → N a tail) where
-
   -- a gap, and an item with its gap, are followed by the closing token
   abbrev Closing : Unit {0} → List T → Type 0
   Closing a tail = first close tail ≡ true
@@ -296,8 +301,12 @@ module _ {T A : Type 0} (separator close : T → Bool) (a-separator a-close : T)
   unfolding ItemEnd
   spaced_correct xs = bind_correct item (λ x. gap separator close >> pure (inl (xs ++ x ∷ []))) Item (λ x. Seq (IsGap separator close) (λ _. IsNothing (inl (xs ++ x ∷ [])))) Any N Any ItemEnd I
       (λ x. gives_correct (gap separator close) (λ _. inl (xs ++ x ∷ [])) (IsGap separator close) Closing ItemEnd gap_correct (λ a tail h. h)) (λ a b u rest l h. tt)
-      (λ a u l. record { whole = inl (xs ++ a ∷ []); tokens = []; phrase = λ tail h.
-          (record { value = tt; front = []; back = []; is = refl; phrase = inr (record { none = refl; next = h }); phrase' = record { value = refl; none = refl } }, closes a tail h) })
+      (λ a u l. record {
+        whole = inl (xs ++ a ∷ []);
+        tokens = [];
+        phrase = λ tail h.
+            (record { value = tt; front = []; back = []; is = refl; phrase = inr (record { none = refl; next = h }); phrase' = record { value = refl; none = refl } }, closes a tail h);
+      })
 
   finish_correct : (t : T) (xs : List A) → Correct (pure (inr (xs, t))) (IsNothing (inr (xs, t))) Any ItemEnd
   finish_correct t xs = pure_correct (inr (xs, t)) Any ItemEnd

@@ -8,3 +8,5 @@ pub mod Attempt
 pub mod Repeat
 pub mod Whole
 pub mod Forms
+pub mod Behind
+pub mod Turns

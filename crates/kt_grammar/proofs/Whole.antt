@@ -10,7 +10,6 @@ use Rattle.kt_grammar.proofs.On.{Phrase}
 
 module _ {T A : Type 0} (p : Parser T A) (L : A → List T → List T → Type 0) (G N : A → List T → Type 0) (C : Correct p L G N)
     (final : (a : A) → G a []) (final' : (a : A) → N a []) (some : Phrase L N) where
-
   start : (ts : List T) → Tied (cursor ts ts)
   start ts = record { whole = ts; before = []; before' = []; is = refl; is' = refl }
 

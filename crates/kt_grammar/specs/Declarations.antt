@@ -119,7 +119,7 @@ may_be_generic _ = false
 abbrev pub IsFunction : Scope → FunctionTree → List Token → List Token → Type 0
 IsFunction scope = Seq IsFun (λ m. Seq (If (may_be_generic scope) IsTypeParameters (Gives [])) (λ ts. Seq IsIdentifier (λ x. Seq (IsSign sign.OpenParenthesis) (λ _. Seq (MaybeCommaList (is_sign sign.CloseParenthesis) IsTypedParameter) (λ ps.
     Seq (Maybe (is_sign sign.Colon) (IsType most_levels)) (λ r. Seq (If (has_body scope m.1) (Seq (IsFunctionBody (is_some r)) (λ b. Gives (Some b))) (Gives None)) (λ b.
-        Gives (record { at = m.0; modifiers = m.1; type_parameters = ts; name = name_of x; parameters = ps; result = r; body = b }))))))))
+    Gives (record { at = m.0; modifiers = m.1; type_parameters = ts; name = name_of x; parameters = ps; result = r; body = b }))))))))
 
 -- ---- classes and interfaces
 

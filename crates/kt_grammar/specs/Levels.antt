@@ -41,9 +41,26 @@ pub record Phrases : Type 1 where
 -- no phrase has no level
 abbrev pub none : Phrases
 none = record {
-  levels = 0; disjunction = λ _. Empty; conjunction = λ _. Empty; equality = λ _. Empty; comparison = λ _. Empty; test = λ _. Empty; elvis = λ _. Empty;
-  infixed = λ _. Empty; additive = λ _. Empty; multiplicative = λ _. Empty; cast = λ _. Empty; prefix = λ _. Empty; lambda = λ _. Empty; statement = λ _. Empty;
-  body = λ _. Empty; part = λ _. Empty; parameter = Empty; entry = λ _ _. Empty; condition = λ _ _. Empty; catch = λ _ _. Empty;
+  levels = 0;
+  disjunction = λ _. Empty;
+  conjunction = λ _. Empty;
+  equality = λ _. Empty;
+  comparison = λ _. Empty;
+  test = λ _. Empty;
+  elvis = λ _. Empty;
+  infixed = λ _. Empty;
+  additive = λ _. Empty;
+  multiplicative = λ _. Empty;
+  cast = λ _. Empty;
+  prefix = λ _. Empty;
+  lambda = λ _. Empty;
+  statement = λ _. Empty;
+  body = λ _. Empty;
+  part = λ _. Empty;
+  parameter = Empty;
+  entry = λ _ _. Empty;
+  condition = λ _ _. Empty;
+  catch = λ _ _. Empty;
 }
 
 -- the place of the first token

@@ -8,3 +8,4 @@ pub mod Levels
 pub mod Expressions
 pub mod Statements
 pub mod Declarations
+pub mod Cursors

@@ -28,6 +28,10 @@ abbrev pub first : {T : Type 0} → (T → Bool) → List T → Bool
 first test [] = false
 first test (t ∷ ts) = test t
 
+abbrev pub tail : {T : Type 0} → List T → List T
+tail [] = []
+tail (t ∷ ts) = ts
+
 abbrev pub and_then : {T A B : Type 0} → Outcome T A → (A → Parser T B) → Outcome T B
 and_then (Ok x) go = go x.0 x.1
 and_then (Err k) go = Err k
