@@ -9,3 +9,5 @@ pub mod Expressions
 pub mod Statements
 pub mod Declarations
 pub mod Cursors
+pub mod Lexemes
+pub mod Texts
