@@ -11,3 +11,6 @@ pub mod Declarations
 pub mod Cursors
 pub mod Lexemes
 pub mod Texts
+pub mod Readers
+pub mod ExpressionParser
+pub mod StatementParser
