@@ -1,14 +1,14 @@
 -- The forms that productions are made of: lists and chains.
-use Rattle.std.proofs.Common.{◌≡◌, ℕ, zero, suc, ◌+◌, ◌≤◌, ◌<◌, Bool, true, false, cond, List, [], ◌∷◌, ◌++◌, length, Result, Ok, Err, refl, sym, ap, subst, ◌∙◌, append_assoc, arith, inl, inr, ◌⊎◌, length-append}
+use Rattle.std.proofs.Common.{◌≡◌, ℕ, ◌<◌, Bool, true, false, List, [], ◌∷◌, ◌++◌, length, Ok, Err, refl, sym, ap, subst, ◌∙◌, append_assoc, arith, inl, inr, ◌⊎◌, length-append}
 use Rattle.std.proofs.lemmas.List.{append-nil, append_cancel_right}
-use Rattle.kt_grammar.specs.Parsers.{Cursor, Outcome, Parser, cursor, further, first, ◌>>=◌, ◌>>◌, pure, token, skip, on, attempt, attempt_if, repeat, ahead, comma_turn, comma_list, maybe_comma_list, more_turn, several, gap, item_turn, items, chain_turn, chain}
-use Rattle.kt_grammar.specs.Phrases.{IsNothing, IsToken, AllPass, IsSkipped, IsAhead, Seq, Either, NotReads, FirstOf, If, WhereRoom, Loop, ends, turns, CommaTurn, CommaList, MaybeCommaList, MoreTurn, Several, IsGap, ItemTurn, Items, ChainTurn, Chain}
-use Rattle.kt_grammar.proofs.Ends.{Tied, picks, further_cases, further_short}
-use Rattle.kt_grammar.proofs.Correct.{Begun, Reading, Refusal, Accepted, Below, Correct, Completion, below, correct, same_language}
+use Rattle.kt_grammar.specs.Parsers.{Cursor, Parser, cursor, further, first, ◌>>=◌, ◌>>◌, pure, token, skip, attempt, attempt_if, repeat, ahead, comma_turn, comma_list, maybe_comma_list, more_turn, several, gap, item_turn, items, chain_turn, chain}
+use Rattle.kt_grammar.specs.Phrases.{IsNothing, IsToken, IsSkipped, IsAhead, Seq, NotReads, FirstOf, If, WhereRoom, Loop, ends, CommaTurn, CommaList, MaybeCommaList, MoreTurn, Several, IsGap, ItemTurn, Items, ChainTurn, Chain}
+use Rattle.kt_grammar.proofs.Ends.{further_short}
+use Rattle.kt_grammar.proofs.Correct.{Begun, Refusal, Accepted, Below, Correct, Completion, below, correct, same_language}
 use Rattle.kt_grammar.proofs.Bind.{bind_correct}
 use Rattle.kt_grammar.proofs.Steps.{Any, truth, if_ok, if_err, refused_at, mark_moves, pure_correct, token_correct}
 use Rattle.kt_grammar.proofs.Skip.{skip_correct}
-use Rattle.kt_grammar.proofs.On.{Phrase, on_correct, on_phrase, first_same}
+use Rattle.kt_grammar.proofs.On.{Phrase, on_correct, first_same}
 use Rattle.kt_grammar.proofs.Attempt.{attempt_correct}
 use Rattle.kt_grammar.proofs.Repeat.{repeat_correct}
 

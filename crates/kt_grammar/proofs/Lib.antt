@@ -10,3 +10,4 @@ pub mod Whole
 pub mod Forms
 pub mod Behind
 pub mod Turns
+mod Examples

@@ -1,11 +1,11 @@
 -- What a correct parser reads to the end is the one sentence, and what it refuses is the first token that no sentence has
 -- there.
-use Rattle.std.proofs.Common.{◌≡◌, ℕ, zero, suc, ◌+◌, ◌-◌, ◌≤◌, ◌<◌, List, [], ◌∷◌, ◌++◌, length, take, Result, Ok, Err, refl, sym, ap, subst, ◌∙◌, append_assoc, arith, inl, inr, ◌⊎◌, length-append}
+use Rattle.std.proofs.Common.{◌≡◌, ℕ, ◌+◌, ◌-◌, ◌≤◌, ◌<◌, List, [], ◌∷◌, ◌++◌, length, take, Ok, Err, refl, sym, ap, subst, ◌∙◌, append_assoc, arith, inl, inr, length-append}
 use Rattle.std.proofs.lemmas.List.{append-nil, take_at}
 use Rattle.kt_grammar.specs.Parsers.{Cursor, Outcome, Parser, cursor}
 use Rattle.kt_grammar.specs.Sentences.{IsSentence, IsPrefix, IsRefusedAt, OneValue}
 use Rattle.kt_grammar.proofs.Ends.{Tied}
-use Rattle.kt_grammar.proofs.Correct.{Begun, Correct, Accepted, not_both}
+use Rattle.kt_grammar.proofs.Correct.{Begun, Correct, not_both}
 use Rattle.kt_grammar.proofs.On.{Phrase}
 
 module _ {T A : Type 0} (p : Parser T A) (L : A → List T → List T → Type 0) (G N : A → List T → Type 0) (C : Correct p L G N)

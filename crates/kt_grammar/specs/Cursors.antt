@@ -1,5 +1,5 @@
 -- What the calls of the cursor do.
-use Rattle.std.specs.Prelude.{◌≡◌, ◌≢◌, Bool, true, false, List, [], ◌∷◌, Option, None, Some, Result, Ok, Err}
+use Rattle.std.specs.Prelude.{◌≡◌, ◌≢◌, Bool, true, false, ◌∷◌, Option, None, Some, Result, Ok, Err}
 use Rattle.kt_grammar.specs.declared.error.ParseError.{ParseError}
 use Rattle.kt_grammar.specs.declared.error.ParseError.TheVariants as parse_error
 use Rattle.kt_grammar.specs.Parsers.{Cursor, Outcome, cursor, further, first}

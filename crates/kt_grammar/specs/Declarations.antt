@@ -1,5 +1,5 @@
 -- The grammar of declarations and of files.
-use Rattle.std.specs.Prelude.{◌≡◌, ℕ, zero, suc, Bool, true, false, not, ◌&&◌, ◌||◌, if◌then◌else◌, List, [], ◌∷◌, ◌++◌, Option, None, Some, is_some, is_none, ◌⊎◌}
+use Rattle.std.specs.Prelude.{ℕ, Bool, true, false, not, List, [], ◌∷◌, ◌++◌, Option, None, Some, is_some, ◌⊎◌}
 use Rattle.std.proofs.Common.{inl, inr}
 use Rattle.kt_base.specs.declared.refusals.Pos.{Pos}
 use Rattle.kt_tree.specs.declared.tokens.Token.{Token}
@@ -7,7 +7,6 @@ use Rattle.kt_tree.specs.declared.tokens.Sign.TheVariants as sign
 use Rattle.kt_tree.specs.declared.tokens.Keyword.TheVariants as word
 use Rattle.kt_tree.specs.declared.tokens.SoftKeyword.{SoftKeyword}
 use Rattle.kt_tree.specs.declared.tokens.SoftKeyword.TheVariants as soft
-use Rattle.kt_tree.specs.declared.bodies.Literal.{Literal}
 use Rattle.kt_tree.specs.declared.bodies.TextPart.{TextPart}
 use Rattle.kt_tree.specs.declared.declarations.FunctionModifiers.{FunctionModifiers}
 use Rattle.kt_tree.specs.declared.declarations.ClassModifiers.{ClassModifiers}
@@ -16,13 +15,13 @@ use Rattle.kt_tree.specs.declared.declarations.ConstructorParameterKind.TheVaria
 use Rattle.kt_tree.specs.declared.declarations.EnumEntry.{EnumEntry}
 use Rattle.kt_tree.specs.declared.declarations.ConstantValue.{ConstantValue}
 use Rattle.kt_tree.specs.declared.declarations.ConstantValue.TheVariants as value
-use Rattle.kt_tree.specs.Tokens.{is_keyword, is_sign, is_soft_keyword}
+use Rattle.kt_tree.specs.Tokens.{is_keyword, is_sign}
 use Rattle.kt_tree.specs.Types.{TypeTree}
 use Rattle.kt_tree.specs.Bodies.{ExpressionTree}
 use Rattle.kt_tree.specs.Declarations as d
 use Rattle.kt_tree.specs.Declarations.{TypeParameterTree, TypedParameterTree, FunctionBodyTree, FunctionTree, ConstructorParameterTree, SuperArgumentsTree, SupertypeTree, PropertyTree, MemberTree, ClassTree, InterfaceTree, ConstantTree, DeclarationTree}
 use Rattle.kt_grammar.specs.Phrases.{IsToken, Seq, Either, Loop, If, Where}
-use Rattle.kt_grammar.specs.Sentences.{IsSentence, IsPrefix, IsRefusedAt, OneValue}
+use Rattle.kt_grammar.specs.Sentences.{IsSentence, IsRefusedAt, OneValue}
 use Rattle.kt_grammar.specs.Terminals.{Meaning, means, nothing, name_of, is_end, is_open_quote, is_close_quote, literal_of, text_of, variable_of}
 use Rattle.kt_grammar.specs.Words.{Empty, Gives, IsSign, IsKeyword, IsSoftKeyword, IsIdentifier, IsMeant, IsLines, IsPast, Maybe, CommaList, MaybeCommaList, Several, Items, Directly}
 use Rattle.kt_grammar.specs.Types.{IsType, IsNamedType}

@@ -14,3 +14,4 @@ pub mod Texts
 pub mod Readers
 pub mod ExpressionParser
 pub mod StatementParser
+pub mod DeclarationParser

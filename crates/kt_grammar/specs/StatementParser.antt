@@ -71,9 +71,25 @@ module _ (room : ℕ) (below : Parsers) (at : Context) where
 
 abbrev pub no_parsers : Parsers
 no_parsers = record {
-  levels = 0; disjunction = λ _. refuse; conjunction = λ _. refuse; equality = λ _. refuse; comparison = λ _. refuse; test = λ _. refuse;
-  infixed = λ _. refuse; additive = λ _. refuse; multiplicative = λ _. refuse; cast = λ _. refuse; prefix = λ _. refuse; lambda = λ _. refuse; statement = λ _. refuse;
-  body = λ _. refuse; part = λ _. refuse; parameter = refuse; entry = λ _ _. refuse; condition = λ _ _. refuse; catch = λ _ _. refuse;
+  levels = 0;
+  disjunction = λ _. refuse;
+  conjunction = λ _. refuse;
+  equality = λ _. refuse;
+  comparison = λ _. refuse;
+  test = λ _. refuse;
+  infixed = λ _. refuse;
+  additive = λ _. refuse;
+  multiplicative = λ _. refuse;
+  cast = λ _. refuse;
+  prefix = λ _. refuse;
+  lambda = λ _. refuse;
+  statement = λ _. refuse;
+  body = λ _. refuse;
+  part = λ _. refuse;
+  parameter = refuse;
+  entry = λ _ _. refuse;
+  condition = λ _ _. refuse;
+  catch = λ _ _. refuse;
 }
 
 abbrev pub parsers_over : Parsers → Parsers

@@ -1,5 +1,5 @@
 -- The tokens that productions name, and what they stand for.
-use Rattle.std.specs.Prelude.{◌≡◌, ℕ, Bool, true, false, ◌&&◌, ◌||◌, if◌then◌else◌, List, [], ◌∷◌, Option, None, Some}
+use Rattle.std.specs.Prelude.{ℕ, Bool, true, false, ◌||◌, if◌then◌else◌, List, [], Option, None, Some}
 use Rattle.kt_tree.specs.declared.tokens.Token.{Token}
 use Rattle.kt_tree.specs.declared.tokens.TokenKind.{TokenKind}
 use Rattle.kt_tree.specs.declared.tokens.TokenKind.TheVariants as kind
@@ -21,7 +21,7 @@ use Rattle.kt_tree.specs.declared.bodies.StepOperator.{StepOperator}
 use Rattle.kt_tree.specs.declared.bodies.StepOperator.TheVariants as step
 use Rattle.kt_tree.specs.declared.bodies.RangeOperator.{RangeOperator}
 use Rattle.kt_tree.specs.declared.bodies.RangeOperator.TheVariants as range
-use Rattle.kt_tree.specs.Tokens.{is_keyword, is_sign, is_soft_keyword, is_new_line, is_identifier}
+use Rattle.kt_tree.specs.Tokens.{is_keyword, is_sign, is_soft_keyword, is_new_line}
 
 -- one of two
 abbrev pub either : (Token → Bool) → (Token → Bool) → Token → Bool

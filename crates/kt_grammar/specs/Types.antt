@@ -1,13 +1,13 @@
 -- The grammar of types.
-use Rattle.std.specs.Prelude.{◌≡◌, ℕ, zero, suc, Bool, true, false, List, [], ◌∷◌, ◌⊎◌}
+use Rattle.std.specs.Prelude.{◌≡◌, ℕ, zero, suc, Bool, true, false, List, []}
 use Rattle.kt_tree.specs.declared.tokens.Token.{Token}
 use Rattle.kt_tree.specs.declared.tokens.Sign.TheVariants as sign
 use Rattle.kt_tree.specs.declared.tokens.SoftKeyword.TheVariants as soft
-use Rattle.kt_tree.specs.Tokens.{is_sign, is_soft_keyword}
+use Rattle.kt_tree.specs.Tokens.{is_sign}
 use Rattle.kt_tree.specs.Types.{TypeTree, named, function, nullable, parenthesized, types_of}
 use Rattle.kt_grammar.specs.Parsers.{first}
 use Rattle.kt_grammar.specs.Phrases.{Seq, Either, Where, IsAhead}
-use Rattle.kt_grammar.specs.Words.{Spells, Empty, Gives, IsSign, IsSoftKeyword, IsIdentifier, CommaList, MaybeCommaList}
+use Rattle.kt_grammar.specs.Words.{Empty, Gives, IsSign, IsSoftKeyword, IsIdentifier, CommaList, MaybeCommaList}
 use Rattle.kt_grammar.specs.Terminals.{name_of}
 
 -- over the types that have one level less

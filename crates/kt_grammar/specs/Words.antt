@@ -1,16 +1,14 @@
 -- The words that productions are written in, beside those that serve tokens of any type.
-use Rattle.std.specs.Prelude.{◌≡◌, ℕ, ◌<◌, Bool, true, false, List, [], ◌∷◌, ◌++◌, length, Option, None, Some, ◌⊎◌}
-use Rattle.std.proofs.Common.{inl, inr}
+use Rattle.std.specs.Prelude.{◌≡◌, Bool, List, [], ◌∷◌, Option, None, Some}
 use Rattle.kt_tree.specs.declared.tokens.Token.{Token}
 use Rattle.kt_tree.specs.declared.tokens.Sign.{Sign}
 use Rattle.kt_tree.specs.declared.tokens.Sign.TheVariants as sign
 use Rattle.kt_tree.specs.declared.tokens.Keyword.{Keyword}
 use Rattle.kt_tree.specs.declared.tokens.SoftKeyword.{SoftKeyword}
 use Rattle.kt_tree.specs.Tokens.{is_keyword, is_sign, is_soft_keyword, is_new_line, is_identifier}
-use Rattle.kt_grammar.specs.Parsers.{first}
 use Rattle.kt_grammar.specs.Phrases as p
 use Rattle.kt_grammar.specs.Phrases.{IsNothing, IsToken, IsSkipped, Seq, FirstOf}
-use Rattle.kt_grammar.specs.Terminals.{Meaning, is_separator, name_of}
+use Rattle.kt_grammar.specs.Terminals.{Meaning, is_separator}
 
 -- which tokens spell which value, where certain tokens follow
 abbrev pub Spells : Type 0 → Type 1

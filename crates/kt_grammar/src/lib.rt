@@ -10,3 +10,6 @@ pub mod tokens;
 
 pub use error::ParseError;
 pub use tokens::Tokens;
+
+#[cfg(test)]
+mod tests;
