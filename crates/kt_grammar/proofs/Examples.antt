@@ -1,9 +1,10 @@
 -- Worked examples: short lists of tokens, and the index of the token at which they are refused.
-use Rattle.std.proofs.Common.{◌≡◌, ℕ, zero, suc, false, List, [], ◌∷◌, ◌++◌, None, Some, refl}
+use Rattle.std.proofs.Common.{◌≡◌, ℕ, zero, suc, ◌+◌, Bool, true, false, List, [], ◌∷◌, ◌++◌, length, Option, None, Some, refl}
 use Rattle.kt_tree.specs.declared.tokens.Token.{Token}
 use Rattle.kt_tree.specs.declared.tokens.TokenKind.{TokenKind}
 use Rattle.kt_tree.specs.declared.tokens.TokenKind.TheVariants as kind
 use Rattle.kt_tree.specs.declared.tokens.Keyword.TheVariants as word
+use Rattle.kt_tree.specs.declared.tokens.Sign.{Sign}
 use Rattle.kt_tree.specs.declared.tokens.Sign.TheVariants as sign
 use Rattle.kt_tree.specs.declared.tokens.SoftKeyword.{SoftKeyword}
 use Rattle.kt_tree.specs.declared.tokens.SoftKeyword.TheVariants as soft
@@ -539,7 +540,7 @@ statement_101 : refused_in (body (name (120 ∷ []) ∷ at (kind.Sign sign.Colon
 unfolding file_parser further token skip on attempt loop ahead meant type_parser parsers most_levels same_keyword same_sign
 statement_101 = refl
 
---
+-- 
 declaration_1 : refused_in (file ([])) ≡ None
 unfolding file_parser further token skip on attempt loop ahead meant type_parser parsers most_levels same_keyword same_sign
 declaration_1 = refl
@@ -694,22 +695,90 @@ declaration_31 : refused_in (file (at (kind.Keyword word.Val) ∷ name (120 ∷ 
 unfolding file_parser further token skip on attempt loop ahead meant type_parser parsers most_levels same_keyword same_sign
 declaration_31 = refl
 
--- nested parentheses, with x in them
-abbrev pub nested : ℕ → List Token → List Token → List Token
-nested zero before after = before ++ name (120 ∷ []) ∷ after
-nested (suc n) before after = nested n (at (kind.Sign sign.OpenParenthesis) ∷ before) (at (kind.Sign sign.CloseParenthesis) ∷ after)
+-- ---- 200 levels and 201: a list of tokens that grows by one level, in front of and behind what it holds
 
--- `x` within so many braces of lambda literals behind `f`
-abbrev pub nested_lambdas : ℕ → List Token → List Token
-nested_lambdas zero inner = inner
-nested_lambdas (suc n) inner = name (102 ∷ []) ∷ at (kind.Sign sign.OpenBrace) ∷ (nested_lambdas n inner ++ at (kind.Sign sign.CloseBrace) ∷ [])
+abbrev pub wrapped : ℕ → List Token → List Token → List Token → List Token
+wrapped zero before inner after = inner
+wrapped (suc n) before inner after = before ++ (wrapped n before inner after ++ after)
 
--- 200 levels
-levels_200 : refused_in (body (nested 199 [] [])) ≡ None
+abbrev pub repeated : ℕ → List Token → List Token
+repeated zero ts = []
+repeated (suc n) ts = ts ++ repeated n ts
+
+abbrev pub sign_of : Sign → Token
+sign_of s = at (kind.Sign s)
+
+abbrev pub x : List Token
+x = name (120 ∷ []) ∷ []
+
+parentheses_200 : refused_in (body (wrapped 199 (sign_of sign.OpenParenthesis ∷ []) x (sign_of sign.CloseParenthesis ∷ []))) ≡ None
 unfolding file_parser further token skip on attempt loop ahead meant type_parser parsers most_levels same_keyword same_sign
-levels_200 = refl
+parentheses_200 = refl
 
--- the parenthesis that holds the 201st level
-levels_201 : refused_in (body (nested 200 [] [])) ≡ Some 204
+parentheses_201 : refused_in (body (wrapped 200 (sign_of sign.OpenParenthesis ∷ []) x (sign_of sign.CloseParenthesis ∷ []))) ≡ Some 204
 unfolding file_parser further token skip on attempt loop ahead meant type_parser parsers most_levels same_keyword same_sign
-levels_201 = refl
+parentheses_201 = refl
+
+prefix_200 : refused_in (body (wrapped 199 (sign_of sign.Minus ∷ []) x [])) ≡ None
+unfolding file_parser further token skip on attempt loop ahead meant type_parser parsers most_levels same_keyword same_sign
+prefix_200 = refl
+
+prefix_201 : refused_in (body (wrapped 200 (sign_of sign.Minus ∷ []) x [])) ≡ Some 204
+unfolding file_parser further token skip on attempt loop ahead meant type_parser parsers most_levels same_keyword same_sign
+prefix_201 = refl
+
+chain_200 : refused_in (body (x ++ repeated 199 (sign_of sign.Plus ∷ x))) ≡ None
+unfolding file_parser further token skip on attempt loop ahead meant type_parser parsers most_levels same_keyword same_sign
+chain_200 = refl
+
+chain_201 : refused_in (body (x ++ repeated 200 (sign_of sign.Plus ∷ x))) ≡ Some 404
+unfolding file_parser further token skip on attempt loop ahead meant type_parser parsers most_levels same_keyword same_sign
+chain_201 = refl
+
+members_200 : refused_in (body (x ++ repeated 199 (sign_of sign.Dot ∷ x))) ≡ None
+unfolding file_parser further token skip on attempt loop ahead meant type_parser parsers most_levels same_keyword same_sign
+members_200 = refl
+
+members_201 : refused_in (body (x ++ repeated 200 (sign_of sign.Dot ∷ x))) ≡ Some 404
+unfolding file_parser further token skip on attempt loop ahead meant type_parser parsers most_levels same_keyword same_sign
+members_201 = refl
+
+calls_200 : refused_in (body (wrapped 199 (x ++ sign_of sign.OpenParenthesis ∷ []) x (sign_of sign.CloseParenthesis ∷ []))) ≡ None
+unfolding file_parser further token skip on attempt loop ahead meant type_parser parsers most_levels same_keyword same_sign
+calls_200 = refl
+
+calls_201 : refused_in (body (wrapped 200 (x ++ sign_of sign.OpenParenthesis ∷ []) x (sign_of sign.CloseParenthesis ∷ []))) ≡ Some 405
+unfolding file_parser further token skip on attempt loop ahead meant type_parser parsers most_levels same_keyword same_sign
+calls_201 = refl
+
+whiles_200 : refused_in (body (wrapped 199 (at (kind.Keyword word.While) ∷ sign_of sign.OpenParenthesis ∷ x ++ sign_of sign.CloseParenthesis ∷ sign_of sign.OpenBrace ∷ []) x (sign_of sign.CloseBrace ∷ []))) ≡ None
+unfolding file_parser further token skip on attempt loop ahead meant type_parser parsers most_levels same_keyword same_sign
+whiles_200 = refl
+
+whiles_201 : refused_in (body (wrapped 200 (at (kind.Keyword word.While) ∷ sign_of sign.OpenParenthesis ∷ x ++ sign_of sign.CloseParenthesis ∷ sign_of sign.OpenBrace ∷ []) x (sign_of sign.CloseBrace ∷ []))) ≡ Some 1000
+unfolding file_parser further token skip on attempt loop ahead meant type_parser parsers most_levels same_keyword same_sign
+whiles_201 = refl
+
+holes_200 : refused_in (body (wrapped 199 (at kind.OpenQuote ∷ at kind.OpenTemplate ∷ []) x (sign_of sign.CloseBrace ∷ at kind.CloseQuote ∷ []))) ≡ None
+unfolding file_parser further token skip on attempt loop ahead meant type_parser parsers most_levels same_keyword same_sign
+holes_200 = refl
+
+holes_201 : refused_in (body (wrapped 200 (at kind.OpenQuote ∷ at kind.OpenTemplate ∷ []) x (sign_of sign.CloseBrace ∷ at kind.CloseQuote ∷ []))) ≡ Some 404
+unfolding file_parser further token skip on attempt loop ahead meant type_parser parsers most_levels same_keyword same_sign
+holes_201 = refl
+
+ifs_200 : refused_in (body (wrapped 199 (at (kind.Keyword word.If) ∷ sign_of sign.OpenParenthesis ∷ x ++ sign_of sign.CloseParenthesis ∷ []) x [])) ≡ None
+unfolding file_parser further token skip on attempt loop ahead meant type_parser parsers most_levels same_keyword same_sign
+ifs_200 = refl
+
+ifs_201 : refused_in (body (wrapped 200 (at (kind.Keyword word.If) ∷ sign_of sign.OpenParenthesis ∷ x ++ sign_of sign.CloseParenthesis ∷ []) x [])) ≡ Some 801
+unfolding file_parser further token skip on attempt loop ahead meant type_parser parsers most_levels same_keyword same_sign
+ifs_201 = refl
+
+types_200 : refused_in (body (at (kind.Keyword word.Val) ∷ x ++ sign_of sign.Colon ∷ wrapped 199 (sign_of sign.OpenParenthesis ∷ []) x (sign_of sign.CloseParenthesis ∷ []))) ≡ None
+unfolding file_parser further token skip on attempt loop ahead meant type_parser parsers most_levels same_keyword same_sign
+types_200 = refl
+
+types_201 : refused_in (body (at (kind.Keyword word.Val) ∷ x ++ sign_of sign.Colon ∷ wrapped 200 (sign_of sign.OpenParenthesis ∷ []) x (sign_of sign.CloseParenthesis ∷ []))) ≡ Some 207
+unfolding file_parser further token skip on attempt loop ahead meant type_parser parsers most_levels same_keyword same_sign
+types_201 = refl

@@ -11,3 +11,4 @@ pub mod Forms
 pub mod Behind
 pub mod Turns
 mod Examples
+pub mod Optional
