@@ -12,3 +12,5 @@ pub mod Behind
 pub mod Turns
 mod Examples
 pub mod Optional
+pub mod Apart
+pub mod TypesRead

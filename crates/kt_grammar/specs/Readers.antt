@@ -67,21 +67,24 @@ named_type deep part = token is_identifier >>= (λ x. attempt_if deep (type_argu
 abbrev pub maybe_nullable : TypeTree → Parser Token TypeTree
 maybe_nullable t = on (is_sign sign.Question) (λ _. pure (nullable t)) (pure t)
 
--- '->' type
 abbrev pub result_type : Bool → Parser Token TypeTree → List TypeTree → Parser Token TypeTree
-result_type suspends part ts = expect sign.Arrow >> (part >>= (λ t. pure (function suspends (types_of ts) t)))
+result_type suspends part ts = part >>= (λ t. pure (function suspends (types_of ts) t))
 
--- one type stands in parentheses
-abbrev pub in_parentheses : List TypeTree → Parser Token TypeTree
-in_parentheses (t ∷ []) = maybe_nullable (parenthesized t)
-in_parentheses _ = refuse
+-- '(' types ')' '->' type
+abbrev pub suspend_type : Parser Token TypeTree → Parser Token TypeTree
+suspend_type part = expect sign.OpenParenthesis >> (maybe_commas (is_sign sign.CloseParenthesis) part >>= (λ ts. expect sign.Arrow >> result_type true part ts))
+
+-- behind types in parentheses
+abbrev pub behind_types : Parser Token TypeTree → List TypeTree → Parser Token TypeTree
+behind_types part (t ∷ []) = on (is_sign sign.Arrow) (λ _. result_type false part (t ∷ [])) (maybe_nullable (parenthesized t))
+behind_types part ts = expect sign.Arrow >> result_type false part ts
 
 -- behind '(': a function type, or a type in parentheses
 abbrev pub behind_parenthesis : Parser Token TypeTree → Parser Token TypeTree
-behind_parenthesis part = maybe_commas (is_sign sign.CloseParenthesis) part >>= (λ ts. on (is_sign sign.Arrow) (λ _. part >>= (λ t. pure (function false (types_of ts) t))) (in_parentheses ts))
+behind_parenthesis part = maybe_commas (is_sign sign.CloseParenthesis) part >>= behind_types part
 
 abbrev pub type_over : Bool → Parser Token TypeTree → Parser Token TypeTree
-type_over deep part = attempt_if deep (token (is_soft_keyword soft.Suspend) >> ahead (is_sign sign.OpenParenthesis)) (λ _. expect sign.OpenParenthesis >> (maybe_commas (is_sign sign.CloseParenthesis) part >>= (λ ts. result_type true part ts)))
+type_over deep part = attempt_if deep (token (is_soft_keyword soft.Suspend) >> ahead (is_sign sign.OpenParenthesis)) (λ _. suspend_type part)
     (on_if deep (is_sign sign.OpenParenthesis) (λ _. behind_parenthesis part) (named_type deep part >>= maybe_nullable))
 
 -- types of at most so many levels

@@ -1,12 +1,11 @@
 -- The grammar of types.
-use Rattle.std.specs.Prelude.{◌≡◌, ℕ, zero, suc, Bool, true, false, List, []}
+use Rattle.std.specs.Prelude.{ℕ, zero, suc, Bool, true, false, nat_lt, List, [], ◌∷◌}
 use Rattle.kt_tree.specs.declared.tokens.Token.{Token}
 use Rattle.kt_tree.specs.declared.tokens.Sign.TheVariants as sign
 use Rattle.kt_tree.specs.declared.tokens.SoftKeyword.TheVariants as soft
 use Rattle.kt_tree.specs.Tokens.{is_sign}
 use Rattle.kt_tree.specs.Types.{TypeTree, named, function, nullable, parenthesized, types_of}
-use Rattle.kt_grammar.specs.Parsers.{first}
-use Rattle.kt_grammar.specs.Phrases.{Seq, Either, Where, IsAhead}
+use Rattle.kt_grammar.specs.Phrases.{Seq, Either, Where, WhereRoom, IsAhead}
 use Rattle.kt_grammar.specs.Words.{Empty, Gives, IsSign, IsSoftKeyword, IsIdentifier, CommaList, MaybeCommaList}
 use Rattle.kt_grammar.specs.Terminals.{name_of}
 
@@ -21,29 +20,38 @@ module _ (Part : TypeTree → List Token → List Token → Type 0) where
   abbrev pub IsNamedType : TypeTree → List Token → List Token → Type 0
   IsNamedType = Seq IsIdentifier (λ x. Where IsTypeArguments (λ ts. Gives (named (name_of x) (types_of ts))) (Gives (named (name_of x) (types_of []))))
 
-  -- '(' (type (',' type)*)? ')' '->' type
-  abbrev pub IsArrow : Bool → TypeTree → List Token → List Token → Type 0
-  IsArrow suspends = Seq (IsSign sign.OpenParenthesis) (λ _. Seq (MaybeCommaList (is_sign sign.CloseParenthesis) Part) (λ ts. Seq (IsSign sign.Arrow) (λ _. Seq Part (λ t. Gives (function suspends (types_of ts) t)))))
-
-  -- 'suspend', where '(' follows
-  abbrev pub IsSuspend : Token → List Token → List Token → Type 0
-  IsSuspend = Seq (IsSoftKeyword soft.Suspend) (λ t. Seq (IsAhead (is_sign sign.OpenParenthesis)) (λ _. Gives t))
-
-  -- '(' type ')'
-  -- Where `->` follows it is no type in parentheses, but begins a function type.
-  abbrev pub IsParenthesizedType : TypeTree → List Token → List Token → Type 0
-  IsParenthesizedType t u rest = Seq (IsSign sign.OpenParenthesis) (λ _. Seq Part (λ p. Seq (IsSign sign.CloseParenthesis) (λ _. Gives (parenthesized p)))) t u rest × (first (is_sign sign.Arrow) rest ≡ false)
-
   -- '?'?
   abbrev pub IsMaybeNullable : TypeTree → TypeTree → List Token → List Token → Type 0
   IsMaybeNullable t = Where (IsSign sign.Question) (λ _. Gives (nullable t)) (Gives t)
 
+  -- the result type of a function type
+  abbrev pub IsResult : Bool → List TypeTree → TypeTree → List Token → List Token → Type 0
+  IsResult suspends ts = Seq Part (λ t. Gives (function suspends (types_of ts) t))
+
+  -- '(' (type (',' type)*)? ')' '->' type, behind 'suspend'
+  abbrev pub IsSuspendType : TypeTree → List Token → List Token → Type 0
+  IsSuspendType = Seq (IsSign sign.OpenParenthesis) (λ _. Seq (MaybeCommaList (is_sign sign.CloseParenthesis) Part) (λ ts. Seq (IsSign sign.Arrow) (λ _. IsResult true ts)))
+
+  -- '->' type | '?'?, behind types in parentheses
+  -- One type alone is a type in parentheses where no `->` follows.
+  abbrev pub IsBehindTypes : List TypeTree → TypeTree → List Token → List Token → Type 0
+  IsBehindTypes (t ∷ []) = Where (IsSign sign.Arrow) (λ _. IsResult false (t ∷ [])) (IsMaybeNullable (parenthesized t))
+  IsBehindTypes ts = Seq (IsSign sign.Arrow) (λ _. IsResult false ts)
+
+  -- '(' (type (',' type)*)? ')' '->' type | '(' type ')' '?'?
+  abbrev pub IsInParentheses : TypeTree → List Token → List Token → Type 0
+  IsInParentheses = Seq (IsSign sign.OpenParenthesis) (λ _. Seq (MaybeCommaList (is_sign sign.CloseParenthesis) Part) IsBehindTypes)
+
+  -- 'suspend', where '(' follows: it is no name then
+  abbrev pub IsSuspend : Unit {0} → List Token → List Token → Type 0
+  IsSuspend = Seq (IsSoftKeyword soft.Suspend) (λ _. IsAhead (is_sign sign.OpenParenthesis))
+
   -- type : atom '?'?      atom : 'suspend'? '(' (type (',' type)*)? ')' '->' type | ID targs? | '(' type ')'
-  -- A function type takes no `?` of its own. Where `(` follows `suspend`, it is no name.
-  abbrev pub IsTypeOver : TypeTree → List Token → List Token → Type 0
-  IsTypeOver = Where IsSuspend (λ _. IsArrow true) (Either (IsArrow false) (Seq (Either IsNamedType IsParenthesizedType) IsMaybeNullable))
+  -- A function type takes no `?` of its own.
+  abbrev pub IsTypeOver : Bool → TypeTree → List Token → List Token → Type 0
+  IsTypeOver deep = WhereRoom deep IsSuspend (λ _. IsSuspendType) (Either IsInParentheses (Seq IsNamedType IsMaybeNullable))
 
 -- types of at most so many levels
 unfoldable pub IsType : ℕ → TypeTree → List Token → List Token → Type 0
 IsType zero = Empty
-IsType (suc n) = IsTypeOver (IsType n)
+IsType (suc n) = IsTypeOver (IsType n) (nat_lt 0 n)
