@@ -6,7 +6,8 @@ use Rattle.kt_tree.specs.declared.tokens.Token.{Token}
 use Rattle.kt_tree.specs.declared.tokens.TokenKind.{TokenKind}
 use Rattle.kt_tree.specs.declared.tokens.TokenKind.TheVariants as kind
 use Rattle.kt_tree.specs.declared.tokens.Sign.{Sign}
-use Rattle.kt_tree.specs.Tokens.{same_sign, kind_is_sign, kind_is_identifier, is_sign, is_identifier}
+use Rattle.kt_tree.specs.declared.tokens.SoftKeyword.{SoftKeyword}
+use Rattle.kt_tree.specs.Tokens.{kind_is_soft_keyword, is_soft_keyword, same_sign, kind_is_sign, kind_is_identifier, is_sign, is_identifier}
 
 pub same_sign_is : (a b : Sign) → same_sign a b ≡ true → a ≡ b
 unfolding same_sign
@@ -31,3 +32,12 @@ kind_no_sign s _ h = refl
 -- an identifier and a sign
 pub identifier_no_sign : (s : Sign) (t : Token) → is_identifier t ≡ true → is_sign s t ≡ false
 identifier_no_sign s t h = kind_no_sign s t.kind h
+
+kind_soft_no_sign : (w : SoftKeyword) (s : Sign) (k : TokenKind) → kind_is_soft_keyword w k ≡ true → kind_is_sign s k ≡ false
+kind_soft_no_sign w s (kind.Identifier x) h = refl
+kind_soft_no_sign w s (kind.Sign found) h = absurd cc
+kind_soft_no_sign w s _ h = refl
+
+-- a soft keyword and a sign
+pub soft_no_sign : (w : SoftKeyword) (s : Sign) (t : Token) → is_soft_keyword w t ≡ true → is_sign s t ≡ false
+soft_no_sign w s t h = kind_soft_no_sign w s t.kind h
