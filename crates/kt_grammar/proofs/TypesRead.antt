@@ -1,5 +1,5 @@
 -- Types are read exactly: the parts of which they are made.
-use Rattle.std.proofs.Common.{◌≡◌, ℕ, zero, suc, Bool, true, false, List, [], ◌∷◌, ◌++◌, length, None, refl, sym, ap, ◌∙◌, inl, inr, ◌⊎◌}
+use Rattle.std.proofs.Common.{arith, ◌≡◌, ℕ, zero, suc, Bool, true, false, List, [], ◌∷◌, ◌++◌, length, None, refl, sym, ap, ◌∙◌, inl, inr, ◌⊎◌}
 use Rattle.kt_base.specs.declared.refusals.Pos.{Pos}
 use Rattle.kt_tree.specs.declared.tokens.Token.{Token}
 use Rattle.kt_tree.specs.declared.tokens.TokenKind.TheVariants as kind
@@ -8,12 +8,13 @@ use Rattle.kt_tree.specs.declared.tokens.Sign.TheVariants as sign
 use Rattle.kt_tree.specs.declared.tokens.SoftKeyword.TheVariants as soft
 use Rattle.kt_tree.specs.Tokens.{same_sign, is_sign, is_identifier, is_soft_keyword, spelling}
 use Rattle.kt_tree.specs.Types.{TypeTree, named, function, nullable, parenthesized, types_of}
-use Rattle.kt_grammar.specs.Parsers.{Parser, first, ◌>>=◌, ◌>>◌, pure, token, on, attempt, ahead}
+use Rattle.kt_grammar.specs.Parsers.{some_levels, Parser, first, ◌>>=◌, ◌>>◌, pure, token, on, attempt, ahead}
 use Rattle.kt_grammar.specs.Phrases.{CommaList, MaybeCommaList, IsNothing, IsToken, IsAhead, Seq, Either, FirstOf, NotReads}
 use Rattle.kt_grammar.specs.Terminals.{name_of}
 use Rattle.kt_grammar.specs.Types.{IsTypeArguments, IsNamedType, IsMaybeNullable, IsResult, IsSuspendType, IsBehindTypes, IsInParentheses, IsSuspend, IsTypeOver, IsType}
 use Rattle.kt_grammar.specs.Readers.{refuse, commas, maybe_commas, type_arguments, named_type, maybe_nullable, result_type, suspend_type, behind_types, behind_parenthesis, type_over, type_parser}
-use Rattle.kt_grammar.proofs.Correct.{Correct, Completion}
+use Rattle.kt_grammar.proofs.Correct.{Correct, Completion, below, correct, same_language}
+use Rattle.kt_grammar.specs.Words.{Empty}
 use Rattle.kt_grammar.proofs.Bind.{bind_correct}
 use Rattle.kt_grammar.proofs.Steps.{Any, pure_correct, token_correct}
 use Rattle.kt_grammar.proofs.On.{Phrase, on_correct}
@@ -268,3 +269,50 @@ module _ (Part : TypeTree → List Token → List Token → Type 0) where
   pub type_phrase : (deep : Bool) → Phrase (IsTypeOver Part deep) TypeEnds
   type_phrase true = record { whole = a_type; tokens = a_name ∷ []; phrase = λ tail h. inl (refl, inr (inr (name_is_type tail h), no_suspend tail)) }
   type_phrase false = record { whole = a_type; tokens = a_name ∷ []; phrase = λ tail h. inr (refl, inr (name_is_type tail h)) }
+
+-- ---- types of one level
+
+leaf : Parser Token TypeTree
+leaf = (token is_identifier >>= (λ x. pure (named (name_of x) (types_of [])))) >>= maybe_nullable
+
+abbrev IsLeaf : TypeTree → List Token → List Token → Type 0
+IsLeaf = Seq (Seq (IsToken is_identifier) (λ x. IsNothing (named (name_of x) (types_of [])))) (IsMaybeNullable Empty)
+
+leaf_correct : Correct leaf IsLeaf Any TypeEnds
+unfolding leaf
+leaf_correct = bind_correct (token is_identifier >>= (λ x. pure (named (name_of x) (types_of [])))) maybe_nullable (Seq (IsToken is_identifier) (λ x. IsNothing (named (name_of x) (types_of [])))) (IsMaybeNullable Empty) Any TypeEnds Any TypeEnds
+    (gives_correct (token is_identifier) (λ x. named (name_of x) (types_of [])) (IsToken is_identifier) Any TypeEnds (token_correct is_identifier a_name refl Any Any) (λ a tail h. tt)) (maybe_nullable_correct Empty) (λ a b u rest l h. tt)
+    (λ t u l. record { whole = t; tokens = []; phrase = λ tail h. (maybe_nullable_phrase Empty t tail h, h) })
+
+no_empty_arguments : (ts : List Token) → NotReads (IsTypeArguments Empty) ts
+no_empty_arguments ts a u rest is s = s.phrase'.phrase
+
+named_leaf : (t : TypeTree) (u rest : List Token) → Seq (IsToken is_identifier) (λ x. IsNothing (named (name_of x) (types_of []))) t u rest → IsNamedType Empty t u rest
+named_leaf t u rest s = record { value = s.value; front = s.front; back = s.back; is = s.is; phrase = s.phrase; phrase' = inr (s.phrase', no_empty_arguments (s.back ++ rest)) }
+
+leaf_named : (t : TypeTree) (u rest : List Token) → IsNamedType Empty t u rest → Seq (IsToken is_identifier) (λ x. IsNothing (named (name_of x) (types_of []))) t u rest
+leaf_named t u rest s = record { value = s.value; front = s.front; back = s.back; is = s.is; phrase = s.phrase; phrase' = elim s.phrase' [ | inl q ↦ absurd q.phrase.phrase'.phrase | inr m ↦ m.0 ] }
+
+no_result : (ts : List TypeTree) (t : TypeTree) (u rest : List Token) → ts ≡ [] → IsBehindTypes Empty ts t u rest → ⊥
+no_result [] t u rest e s = s.phrase'.phrase
+no_result (x ∷ []) t u rest e s = absurd (omega (arith, ap length e))
+no_result (x ∷ y ∷ ts) t u rest e s = s.phrase'.phrase
+
+no_parentheses : (t : TypeTree) (u rest : List Token) → IsInParentheses Empty t u rest → ⊥
+no_parentheses t u rest s = elim s.phrase'.phrase [ | inl q ↦ no_result s.phrase'.value t s.phrase'.back rest q.phrase'.value s.phrase'.phrase' | inr q ↦ q.phrase ]
+
+leaf_is_type : (t : TypeTree) (u rest : List Token) → IsLeaf t u rest → IsTypeOver Empty false t u rest
+leaf_is_type t u rest s = inr (refl, inr (record { value = s.value; front = s.front; back = s.back; is = s.is; phrase = named_leaf s.value s.front (s.back ++ rest) s.phrase; phrase' = s.phrase' }))
+
+type_is_leaf : (t : TypeTree) (u rest : List Token) → IsTypeOver Empty false t u rest → IsLeaf t u rest
+type_is_leaf t u rest (inl x) = absurd (let e : false ≡ true = x.0 in cc)
+type_is_leaf t u rest (inr x) = elim x.1 [
+  | inl s ↦ absurd (no_parentheses t u rest s)
+  | inr s ↦ record { value = s.value; front = s.front; back = s.back; is = s.is; phrase = leaf_named s.value s.front (s.back ++ rest) s.phrase; phrase' = s.phrase' } ]
+
+-- ---- types of any number of levels
+
+pub types_correct : (n : ℕ) → Correct (type_parser (suc n)) (IsType (suc n)) Any TypeEnds
+unfolding type_parser IsType leaf
+types_correct zero = correct leaf (IsTypeOver Empty false) Any TypeEnds (λ m. same_language m leaf IsLeaf (IsTypeOver Empty false) Any Any TypeEnds TypeEnds leaf_is_type (λ a u rest l g. type_is_leaf a u rest l) (λ a rest g. g) (λ a rest h. h) (below m leaf IsLeaf Any TypeEnds leaf_correct))
+types_correct (suc n) = deep_correct (type_parser (suc n)) (IsType (suc n)) (types_correct n) (type_phrase (IsType n) (some_levels n)) (no_close_of (IsType n) (some_levels n))

@@ -12,7 +12,7 @@ use Rattle.kt_tree.specs.Types.{TypeTree}
 use Rattle.kt_tree.specs.Bodies as e
 use Rattle.kt_tree.specs.Bodies.{ExpressionTree, PartTree, ParameterTree, StatementTree, BodyTree, BlockTree, EntryTree, ConditionTree, CatchTree, expressions_of, parts_of, entries_of, conditions_of, catches_of, statements_of, maybe_expression}
 use Rattle.kt_tree.specs.Levels.{levels, parts_levels}
-use Rattle.kt_grammar.specs.Parsers.{Parser, ◌>>=◌, ◌>>◌, pure, token, on, attempt, attempt_if, ahead, repeat, chain}
+use Rattle.kt_grammar.specs.Parsers.{some_levels, Parser, ◌>>=◌, ◌>>◌, pure, token, on, attempt, attempt_if, ahead, repeat, chain}
 use Rattle.kt_grammar.specs.Terminals.{either, name_of, is_open_quote, is_close_quote, is_name_part, is_this_part, is_open_template, literal_of, text_of, disjunction_of, conjunction_of, equality_of, comparison_of, elvis_of, infix_of, additive_of, multiplicative_of, prefix_of, type_check_of, cast_of, member_of}
 use Rattle.kt_grammar.specs.Levels.{Context, place, ends_in_name}
 use Rattle.kt_grammar.specs.Expressions.{in_lambda}
@@ -43,9 +43,9 @@ pub record Parsers : Type 0 where
 -- a part of a string, where so many levels are left for what it holds
 abbrev pub part_of : ℕ → Parser Token ExpressionTree → Parser Token PartTree
 part_of left expression = attempt (meant text_of) (λ t. pure (e.text t.1))
-    (on_if (nat_lt 0 left) is_name_part (λ t. pure (e.name_part (name_of t)))
-    (on_if (nat_lt 0 left) is_this_part (λ _. pure e.this_part)
-    (on_if (nat_lt 0 left) is_open_template (λ _. lines >> (expression >>= (λ a. lines >> (expect sign.CloseBrace >> pure (e.hole a)))))
+    (on_if (some_levels left) is_name_part (λ t. pure (e.name_part (name_of t)))
+    (on_if (some_levels left) is_this_part (λ _. pure e.this_part)
+    (on_if (some_levels left) is_open_template (λ _. lines >> (expression >>= (λ a. lines >> (expect sign.CloseBrace >> pure (e.hole a)))))
     refuse)))
 
 abbrev pub parameter_of : ℕ → Parser Token ParameterTree
@@ -59,7 +59,7 @@ block_of statement = expect sign.OpenBrace >> block_rest statement
 
 module _ (room : ℕ) (below : Parsers) (at : Context) where
   abbrev deep : Bool
-  deep = nat_lt 0 below.levels
+  deep = some_levels below.levels
 
   abbrev has_more : ExpressionTree → Bool
   has_more a = nat_lt (levels a) room

@@ -12,6 +12,7 @@ use Rattle.kt_tree.specs.Types.{TypeTree}
 use Rattle.kt_tree.specs.Bodies as e
 use Rattle.kt_tree.specs.Bodies.{ExpressionTree, PartTree, ParameterTree, StatementTree, BlockTree, EntryTree, ConditionTree, CatchTree, expressions_of, parts_of, entries_of, conditions_of, catches_of, statements_of, maybe_expression}
 use Rattle.kt_tree.specs.Levels.{levels, parts_levels}
+use Rattle.kt_grammar.specs.Parsers.{some_levels}
 use Rattle.kt_grammar.specs.Phrases.{IsToken, Seq, Either, Loop, If, Where, WhereRoom, IsAhead}
 use Rattle.kt_grammar.specs.Terminals.{Meaning, either, name_of, is_open_quote, is_close_quote, is_name_part, is_this_part, is_open_template, literal_of, text_of, disjunction_of, conjunction_of, equality_of, comparison_of, elvis_of, infix_of, additive_of, multiplicative_of, prefix_of, type_check_of, cast_of, member_of}
 use Rattle.kt_grammar.specs.Words.{Empty, Gives, IsSign, IsKeyword, IsSoftKeyword, IsIdentifier, IsMeant, IsLines, IsPast, Maybe, MaybeCommaList, Several, Items, Directly}
@@ -24,8 +25,8 @@ use Rattle.kt_grammar.specs.Levels.{Context, Phrases, place, ends_in_name}
 -- part : text | '$' ID | '$' 'this' | '${' n expr n '}'
 abbrev pub IsPart : ℕ → (ExpressionTree → List Token → List Token → Type 0) → PartTree → List Token → List Token → Type 0
 IsPart left Expression = Either (Seq (IsMeant text_of) (λ t. Gives (e.text t.1)))
-    (Either (If (nat_lt 0 left) (Seq (IsToken is_name_part) (λ t. Gives (e.name_part (name_of t)))) Empty)
-    (Either (If (nat_lt 0 left) (Seq (IsToken is_this_part) (λ _. Gives e.this_part)) Empty)
+    (Either (If (some_levels left) (Seq (IsToken is_name_part) (λ t. Gives (e.name_part (name_of t)))) Empty)
+    (Either (If (some_levels left) (Seq (IsToken is_this_part) (λ _. Gives e.this_part)) Empty)
     (Seq (IsToken is_open_template) (λ _. Seq (IsPast Expression) (λ a. Seq (IsPast (IsSign sign.CloseBrace)) (λ _. Gives (e.hole a)))))))
 
 -- ---- lambda literals
@@ -96,7 +97,7 @@ module _ (room : ℕ) (below : Phrases) (at : Context) where
 
   -- ('(' expr ')')?
   abbrev pub IsSubject : Option ExpressionTree → List Token → List Token → Type 0
-  IsSubject = WhereRoom (nat_lt 0 below.levels) (IsSign sign.OpenParenthesis) (λ _. Seq (below.disjunction at) (λ a. Seq (IsSign sign.CloseParenthesis) (λ _. Gives (Some a)))) (Gives None)
+  IsSubject = WhereRoom (some_levels below.levels) (IsSign sign.OpenParenthesis) (λ _. Seq (below.disjunction at) (λ a. Seq (IsSign sign.CloseParenthesis) (λ _. Gives (Some a)))) (Gives None)
 
   -- when : 'when' ('(' expr ')')? n '{' sep? (entry (sep entry)*)? sep? '}'
   abbrev pub IsWhen : ExpressionTree → List Token → List Token → Type 0
@@ -111,7 +112,7 @@ module _ (room : ℕ) (below : Phrases) (at : Context) where
   IsFinallyHead = Seq (IsPast (IsSoftKeyword soft.Finally)) (λ _. IsPast (IsSign sign.OpenBrace))
 
   abbrev pub CatchTurn : List CatchTree → List CatchTree ⊎ List CatchTree → List Token → List Token → Type 0
-  CatchTurn cs = WhereRoom (nat_lt 0 below.levels) IsCatchHead (λ x. Seq (below.catch at (name_of x)) (λ c. Gives (inl (cs ++ c ∷ [])))) (Gives (inr cs))
+  CatchTurn cs = WhereRoom (some_levels below.levels) IsCatchHead (λ x. Seq (below.catch at (name_of x)) (λ c. Gives (inl (cs ++ c ∷ [])))) (Gives (inr cs))
 
   -- without `catch` there is a `finally`
   abbrev pub IsNoFinally : Pos → BlockTree → List CatchTree → ExpressionTree → List Token → List Token → Type 0

@@ -101,6 +101,11 @@ repeat turn x = λ c. loop turn (suc (length c.rest)) x c
 unfoldable pub ahead : {T : Type 0} → (T → Bool) → Parser T (Unit {0})
 ahead test = λ c. if first test c.rest then Ok (tt, cursor c.rest (further c.rest c.far)) else Err (further c.rest c.far)
 
+-- at least one level is left
+abbrev pub some_levels : ℕ → Bool
+some_levels zero = false
+some_levels (suc n) = true
+
 -- an attempt, where there is room for what it reads
 abbrev pub attempt_if : {T A B : Type 0} → Bool → Parser T A → (A → Parser T B) → Parser T B → Parser T B
 attempt_if true p go other = attempt p go other

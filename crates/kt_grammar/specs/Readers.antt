@@ -1,12 +1,12 @@
 -- Parsers of single tokens and parts, beside those that serve tokens of any type; parsers of types.
-use Rattle.std.specs.Prelude.{ℕ, zero, suc, Bool, true, false, nat_lt, List, [], ◌∷◌, Option, None, Some, Ok, Err}
+use Rattle.std.specs.Prelude.{ℕ, zero, suc, Bool, true, false, List, [], ◌∷◌, Option, None, Some, Ok, Err}
 use Rattle.kt_tree.specs.declared.tokens.Token.{Token}
 use Rattle.kt_tree.specs.declared.tokens.Sign.{Sign}
 use Rattle.kt_tree.specs.declared.tokens.Sign.TheVariants as sign
 use Rattle.kt_tree.specs.declared.tokens.SoftKeyword.TheVariants as soft
 use Rattle.kt_tree.specs.Tokens.{is_sign, is_soft_keyword, is_new_line, is_identifier}
 use Rattle.kt_tree.specs.Types.{TypeTree, named, function, nullable, parenthesized, types_of}
-use Rattle.kt_grammar.specs.Parsers.{Outcome, Parser, cursor, further, ◌>>=◌, ◌>>◌, pure, token, skip, on, attempt_if, ahead, comma_list, maybe_comma_list, several, items}
+use Rattle.kt_grammar.specs.Parsers.{some_levels, Outcome, Parser, cursor, further, ◌>>=◌, ◌>>◌, pure, token, skip, on, attempt_if, ahead, comma_list, maybe_comma_list, several, items}
 use Rattle.kt_grammar.specs.Terminals.{Meaning, is_separator, name_of}
 
 -- refuses the next token
@@ -90,4 +90,4 @@ type_over deep part = attempt_if deep (token (is_soft_keyword soft.Suspend) >> a
 -- types of at most so many levels
 unfoldable pub type_parser : ℕ → Parser Token TypeTree
 type_parser zero = refuse
-type_parser (suc n) = type_over (nat_lt 0 n) (type_parser n)
+type_parser (suc n) = type_over (some_levels n) (type_parser n)

@@ -7,7 +7,7 @@ use Rattle.kt_tree.specs.Tokens.{is_keyword, is_sign, is_identifier}
 use Rattle.kt_tree.specs.Bodies as e
 use Rattle.kt_tree.specs.Bodies.{ExpressionTree, StatementTree, BodyTree, EntryTree, ConditionTree, CatchTree, conditions_of, maybe_expression}
 use Rattle.kt_tree.specs.Levels.{levels}
-use Rattle.kt_grammar.specs.Parsers.{Parser, ◌>>=◌, ◌>>◌, pure, token, on, attempt_if}
+use Rattle.kt_grammar.specs.Parsers.{some_levels, Parser, ◌>>=◌, ◌>>◌, pure, token, on, attempt_if}
 use Rattle.kt_grammar.specs.Terminals.{name_of, variable_of, assignment_of, step_of, range_of, type_check_of}
 use Rattle.kt_grammar.specs.Levels.{Context, place, is_target}
 use Rattle.kt_grammar.specs.Statements.{in_loop}
@@ -28,7 +28,7 @@ unless_brace p = λ c. by_brace (begins_with_brace c.rest) p c
 
 module _ (room : ℕ) (below : Parsers) (at : Context) where
   abbrev deep : Bool
-  deep = nat_lt 0 below.levels
+  deep = some_levels below.levels
 
   abbrev initializer : Parser Token (Option ExpressionTree)
   initializer = on_if deep (is_sign sign.Assign) (λ _. lines >> (below.disjunction at >>= (λ a. pure (Some a)))) (pure None)

@@ -1,12 +1,12 @@
 -- The grammar of statements, and of what `when` and `try` hold; and phrases of each number of levels.
-use Rattle.std.specs.Prelude.{◌≡◌, ℕ, zero, suc, Bool, true, false, nat_lt, ◌&&◌, List, [], ◌++◌, Option, None, Some}
+use Rattle.std.specs.Prelude.{◌≡◌, ℕ, zero, suc, Bool, true, false, ◌&&◌, List, [], ◌++◌, Option, None, Some}
 use Rattle.kt_tree.specs.declared.tokens.Token.{Token}
 use Rattle.kt_tree.specs.declared.tokens.Sign.TheVariants as sign
 use Rattle.kt_tree.specs.declared.tokens.Keyword.TheVariants as word
 use Rattle.kt_tree.specs.Tokens.{is_sign}
 use Rattle.kt_tree.specs.Bodies as e
 use Rattle.kt_tree.specs.Bodies.{ExpressionTree, StatementTree, BodyTree, EntryTree, ConditionTree, CatchTree, conditions_of, maybe_expression}
-use Rattle.kt_grammar.specs.Parsers.{first}
+use Rattle.kt_grammar.specs.Parsers.{some_levels, first}
 use Rattle.kt_grammar.specs.Phrases.{Seq, Either, If, WhereRoom}
 use Rattle.kt_grammar.specs.Terminals.{name_of, variable_of, assignment_of, step_of, range_of, type_check_of}
 use Rattle.kt_grammar.specs.Words.{Empty, Gives, IsSign, IsKeyword, IsIdentifier, IsMeant, IsPast, Maybe, Several, Directly}
@@ -22,7 +22,7 @@ in_loop at = record at { in_loop = true }
 module _ (room : ℕ) (below : Phrases) (at : Context) where
   -- ('=' n expr)?
   abbrev pub IsInitializer : Option ExpressionTree → List Token → List Token → Type 0
-  IsInitializer = WhereRoom (nat_lt 0 below.levels) (IsSign sign.Assign) (λ _. Seq (IsPast (below.disjunction at)) (λ a. Gives (Some a))) (Gives None)
+  IsInitializer = WhereRoom (some_levels below.levels) (IsSign sign.Assign) (λ _. Seq (IsPast (below.disjunction at)) (λ a. Gives (Some a))) (Gives None)
 
   -- ('val' | 'var') ID (':' type)? ('=' n expr)?
   abbrev pub IsLocal : StatementTree → List Token → List Token → Type 0

@@ -1,10 +1,11 @@
 -- The grammar of types.
-use Rattle.std.specs.Prelude.{ℕ, zero, suc, Bool, true, false, nat_lt, List, [], ◌∷◌}
+use Rattle.std.specs.Prelude.{ℕ, zero, suc, Bool, true, false, List, [], ◌∷◌}
 use Rattle.kt_tree.specs.declared.tokens.Token.{Token}
 use Rattle.kt_tree.specs.declared.tokens.Sign.TheVariants as sign
 use Rattle.kt_tree.specs.declared.tokens.SoftKeyword.TheVariants as soft
 use Rattle.kt_tree.specs.Tokens.{is_sign}
 use Rattle.kt_tree.specs.Types.{TypeTree, named, function, nullable, parenthesized, types_of}
+use Rattle.kt_grammar.specs.Parsers.{some_levels}
 use Rattle.kt_grammar.specs.Phrases.{Seq, Either, Where, WhereRoom, IsAhead}
 use Rattle.kt_grammar.specs.Words.{Empty, Gives, IsSign, IsSoftKeyword, IsIdentifier, CommaList, MaybeCommaList}
 use Rattle.kt_grammar.specs.Terminals.{name_of}
@@ -54,4 +55,4 @@ module _ (Part : TypeTree → List Token → List Token → Type 0) where
 -- types of at most so many levels
 unfoldable pub IsType : ℕ → TypeTree → List Token → List Token → Type 0
 IsType zero = Empty
-IsType (suc n) = IsTypeOver (IsType n) (nat_lt 0 n)
+IsType (suc n) = IsTypeOver (IsType n) (some_levels n)
