@@ -1,5 +1,5 @@
 -- A token passes no two tests that tell kinds of tokens apart.
-use Rattle.std.proofs.Common.{◌≡◌, ℕ, Bool, true, false, List, [], ◌∷◌, refl, sym, ap, ◌∙◌, rules}
+use Rattle.std.proofs.Common.{◌≡◌, true, false, refl, ap, ◌∙◌, rules}
 use denote.Enum.Bare.{same_true}
 use Rattle.kt_tree.specs.contracts.tokens.Sign as sign_kind
 use Rattle.kt_tree.specs.declared.tokens.Token.{Token}

@@ -1,5 +1,5 @@
 -- Worked examples: short lists of tokens, and the index of the token at which they are refused.
-use Rattle.std.proofs.Common.{◌≡◌, ℕ, zero, suc, ◌+◌, Bool, true, false, List, [], ◌∷◌, ◌++◌, length, Option, None, Some, refl}
+use Rattle.std.proofs.Common.{◌≡◌, ℕ, zero, suc, false, List, [], ◌∷◌, ◌++◌, None, Some, refl}
 use Rattle.kt_tree.specs.declared.tokens.Token.{Token}
 use Rattle.kt_tree.specs.declared.tokens.TokenKind.{TokenKind}
 use Rattle.kt_tree.specs.declared.tokens.TokenKind.TheVariants as kind
@@ -540,7 +540,7 @@ statement_101 : refused_in (body (name (120 ∷ []) ∷ at (kind.Sign sign.Colon
 unfolding file_parser further token skip on attempt loop ahead meant type_parser parsers most_levels same_keyword same_sign
 statement_101 = refl
 
--- 
+--
 declaration_1 : refused_in (file ([])) ≡ None
 unfolding file_parser further token skip on attempt loop ahead meant type_parser parsers most_levels same_keyword same_sign
 declaration_1 = refl

@@ -14,3 +14,4 @@ mod Examples
 pub mod Optional
 pub mod Apart
 pub mod TypesRead
+pub mod TypeLaws

@@ -1,12 +1,11 @@
 -- Parts that may be absent, and phrases behind lines.
-use Rattle.std.proofs.Common.{◌≡◌, ℕ, ◌+◌, ◌<◌, Bool, true, false, List, [], ◌∷◌, ◌++◌, length, Ok, Err, refl, sym, ap, subst, ◌∙◌, append_assoc, arith, inl, inr, ◌⊎◌, length-append}
-use Rattle.std.proofs.lemmas.List.{append-nil}
-use Rattle.kt_grammar.specs.Parsers.{Cursor, Outcome, Parser, cursor, further, first, ◌>>=◌, ◌>>◌, pure, token, skip, on, attempt, tried}
-use Rattle.kt_grammar.specs.Phrases.{IsNothing, IsToken, IsSkipped, Seq, NotReads, FirstOf}
-use Rattle.kt_grammar.proofs.Ends.{Tied, tied_move}
-use Rattle.kt_grammar.proofs.Correct.{Correct, Below, Completion, below, correct, same_parser}
+use Rattle.std.proofs.Common.{◌≡◌, Bool, true, false, List, [], ◌∷◌, ◌++◌, refl, sym, ap, ◌∙◌, append_assoc}
+use Rattle.kt_grammar.specs.Parsers.{Cursor, Parser, cursor, first, ◌>>◌, token, skip, on, attempt}
+use Rattle.kt_grammar.specs.Phrases.{IsToken, IsSkipped, Seq, NotReads, FirstOf}
+use Rattle.kt_grammar.proofs.Ends.{tied_move}
+use Rattle.kt_grammar.proofs.Correct.{Correct, below, correct, same_parser}
 use Rattle.kt_grammar.proofs.Bind.{bind_correct}
-use Rattle.kt_grammar.proofs.Steps.{Any, pure_correct, token_correct}
+use Rattle.kt_grammar.proofs.Steps.{Any, token_correct}
 use Rattle.kt_grammar.proofs.Skip.{skip_correct}
 use Rattle.kt_grammar.proofs.On.{Phrase}
 use Rattle.kt_grammar.proofs.Attempt.{attempt_correct}
@@ -41,9 +40,9 @@ pub where_token_correct : {T B : Type 0} (test : T → Bool) (witness : T) (pass
     → ((t : T) → Correct (go t) (L t) Any N) → Correct other M Any N → ((t : T) → test t ≡ true → Phrase (L t) N) → Correct (on test go other) (FirstOf (IsToken test) L M) Any N
 where_token_correct test witness passes go other L M N P Q some =
     correct (on test go other) (FirstOf (IsToken test) L M) Any N (λ n. same_parser n (attempt (token test) go other) (on test go other) (FirstOf (IsToken test) L M) Any N (λ c t. on_is_attempt test go other c) tied_move
-        (below n (attempt (token test) go other) (FirstOf (IsToken test) L M) Any N
-            (attempt_correct (token test) go other (IsToken test) L M Any Any N (token_correct test witness passes Any Any) P Q
-                (λ t u l. let s = some t (l [] tt).passes in record { whole = s.whole; tokens = s.tokens; phrase = λ tail h. (s.phrase tail h, tt) }))))
+    (below n (attempt (token test) go other) (FirstOf (IsToken test) L M) Any N
+    (attempt_correct (token test) go other (IsToken test) L M Any Any N (token_correct test witness passes Any Any) P Q
+    (λ t u l. let s = some t (l [] tt).passes in record { whole = s.whole; tokens = s.tokens; phrase = λ tail h. (s.phrase tail h, tt) }))))
 
 -- a phrase behind lines, which doesn't begin with one
 pub past_correct : {T A : Type 0} (line : T → Bool) (p : Parser T A) (L : A → List T → List T → Type 0) (N : A → List T → Type 0) → Correct p L Any N → Phrase L N → ((a : A) (u rest : List T) → L a u rest → first line (u ++ rest) ≡ false)

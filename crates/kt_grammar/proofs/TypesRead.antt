@@ -1,6 +1,5 @@
 -- Types are read exactly: the parts of which they are made.
-use Rattle.std.proofs.Common.{arith, ◌≡◌, ℕ, zero, suc, Bool, true, false, List, [], ◌∷◌, ◌++◌, length, None, refl, sym, ap, ◌∙◌, inl, inr, ◌⊎◌}
-use Rattle.kt_base.specs.declared.refusals.Pos.{Pos}
+use Rattle.std.proofs.Common.{arith, ◌≡◌, ℕ, zero, suc, Bool, true, false, List, [], ◌∷◌, ◌++◌, length, refl, ap, ◌∙◌, inl, inr}
 use Rattle.kt_tree.specs.declared.tokens.Token.{Token}
 use Rattle.kt_tree.specs.declared.tokens.TokenKind.TheVariants as kind
 use Rattle.kt_tree.specs.declared.tokens.Sign.{Sign}
@@ -12,8 +11,8 @@ use Rattle.kt_grammar.specs.Parsers.{some_levels, Parser, first, ◌>>=◌, ◌>
 use Rattle.kt_grammar.specs.Phrases.{CommaList, MaybeCommaList, IsNothing, IsToken, IsAhead, Seq, Either, FirstOf, NotReads}
 use Rattle.kt_grammar.specs.Terminals.{name_of}
 use Rattle.kt_grammar.specs.Types.{IsTypeArguments, IsNamedType, IsMaybeNullable, IsResult, IsSuspendType, IsBehindTypes, IsInParentheses, IsSuspend, IsTypeOver, IsType}
-use Rattle.kt_grammar.specs.Readers.{refuse, commas, maybe_commas, type_arguments, named_type, maybe_nullable, result_type, suspend_type, behind_types, behind_parenthesis, type_over, type_parser}
-use Rattle.kt_grammar.proofs.Correct.{Correct, Completion, below, correct, same_language}
+use Rattle.kt_grammar.specs.Readers.{commas, maybe_commas, type_arguments, named_type, maybe_nullable, result_type, suspend_type, behind_types, behind_parenthesis, type_over, type_parser}
+use Rattle.kt_grammar.proofs.Correct.{Correct, below, correct, same_language}
 use Rattle.kt_grammar.specs.Words.{Empty}
 use Rattle.kt_grammar.proofs.Bind.{bind_correct}
 use Rattle.kt_grammar.proofs.Steps.{Any, pure_correct, token_correct}
@@ -144,15 +143,15 @@ module _ (part : Parser Token TypeTree) (Part : TypeTree → List Token → List
       (λ _. comma_list_correct (is_sign sign.Comma) (is_sign sign.Greater) (a_sign sign.Comma) (a_sign sign.Greater) is-comma is-greater (λ t h. signs_apart sign.Greater sign.Comma greater-comma t h) part Part TypeEnds P some greater_ends Any)
       (λ a b u rest l h. tt)
       (λ a u l. let s = comma_list_phrase (is_sign sign.Comma) (is_sign sign.Greater) (a_sign sign.Comma) (a_sign sign.Greater) is-comma is-greater (λ t h. signs_apart sign.Greater sign.Comma greater-comma t h) part Part TypeEnds P some greater_ends Any in
-          record { whole = s.whole; tokens = s.tokens; phrase = λ tail h. (s.phrase tail tt, tt) })
+      record { whole = s.whole; tokens = s.tokens; phrase = λ tail h. (s.phrase tail tt, tt) })
 
   -- ID targs?
   pub named_type_correct : Correct (named_type true part) (IsNamedType Part) Any TypeEnds
   named_type_correct = bind_correct (token is_identifier) (λ x. attempt (type_arguments part) (λ ts. pure (named (name_of x) (types_of ts))) (pure (named (name_of x) (types_of [])))) (IsToken is_identifier)
       (λ x. FirstOf (IsTypeArguments Part) (λ ts. IsNothing (named (name_of x) (types_of ts))) (IsNothing (named (name_of x) (types_of [])))) Any Any Any TypeEnds (token_correct is_identifier a_name refl Any Any)
       (λ x. attempt_correct (type_arguments part) (λ ts. pure (named (name_of x) (types_of ts))) (pure (named (name_of x) (types_of []))) (IsTypeArguments Part) (λ ts. IsNothing (named (name_of x) (types_of ts))) (IsNothing (named (name_of x) (types_of []))) Any Any TypeEnds
-          type_arguments_correct (λ ts. pure_correct (named (name_of x) (types_of ts)) Any TypeEnds) (pure_correct (named (name_of x) (types_of [])) Any TypeEnds)
-          (λ ts u l. record { whole = named (name_of x) (types_of ts); tokens = []; phrase = λ tail h. (record { value = refl; none = refl }, tt) }))
+      type_arguments_correct (λ ts. pure_correct (named (name_of x) (types_of ts)) Any TypeEnds) (pure_correct (named (name_of x) (types_of [])) Any TypeEnds)
+      (λ ts u l. record { whole = named (name_of x) (types_of ts); tokens = []; phrase = λ tail h. (record { value = refl; none = refl }, tt) }))
       (λ a b u rest l h. tt)
       (λ x u l. record { whole = named (name_of x) (types_of []); tokens = []; phrase = λ tail h. (inr (record { value = refl; none = refl }, no_arguments Part tail h.no_less), tt) })
 
@@ -194,8 +193,18 @@ module _ (part : Parser Token TypeTree) (Part : TypeTree → List Token → List
 
     listed_phrase : Phrase (Seq (MaybeCommaList (is_sign sign.Comma) (is_sign sign.CloseParenthesis) Part) (λ ts. Seq (IsToken (is_sign sign.Arrow)) (λ _. IsResult Part true ts))) TypeEnds
     listed_phrase = let s = arrow_phrase true [] in
-        record { whole = s.whole; tokens = a_sign sign.CloseParenthesis ∷ s.tokens; phrase = λ tail h. record { value = []; front = a_sign sign.CloseParenthesis ∷ []; back = s.tokens; is = refl;
-          phrase = inl (record { value = a_sign sign.CloseParenthesis; front = a_sign sign.CloseParenthesis ∷ []; back = []; is = refl; phrase = record { passes = is-close; one = refl }; phrase' = record { value = refl; none = refl } }); phrase' = s.phrase tail h } }
+        record {
+          whole = s.whole;
+          tokens = a_sign sign.CloseParenthesis ∷ s.tokens;
+          phrase = λ tail h. record {
+            value = [];
+            front = a_sign sign.CloseParenthesis ∷ [];
+            back = s.tokens;
+            is = refl;
+            phrase = inl (record { value = a_sign sign.CloseParenthesis; front = a_sign sign.CloseParenthesis ∷ []; back = []; is = refl; phrase = record { passes = is-close; one = refl }; phrase' = record { value = refl; none = refl } });
+            phrase' = s.phrase tail h;
+          };
+        }
 
     -- '(' .. ')' '->' type | '(' type ')' '?'?, behind its '('
     parentheses_correct : Correct (behind_parenthesis part) (Seq (MaybeCommaList (is_sign sign.Comma) (is_sign sign.CloseParenthesis) Part) (IsBehindTypes Part)) Any TypeEnds
@@ -204,8 +213,18 @@ module _ (part : Parser Token TypeTree) (Part : TypeTree → List Token → List
 
     parentheses_phrase : Phrase (Seq (MaybeCommaList (is_sign sign.Comma) (is_sign sign.CloseParenthesis) Part) (IsBehindTypes Part)) TypeEnds
     parentheses_phrase = let s = behind_phrase [] in
-        record { whole = s.whole; tokens = a_sign sign.CloseParenthesis ∷ s.tokens; phrase = λ tail h. record { value = []; front = a_sign sign.CloseParenthesis ∷ []; back = s.tokens; is = refl;
-          phrase = inl (record { value = a_sign sign.CloseParenthesis; front = a_sign sign.CloseParenthesis ∷ []; back = []; is = refl; phrase = record { passes = is-close; one = refl }; phrase' = record { value = refl; none = refl } }); phrase' = s.phrase tail h } }
+        record {
+          whole = s.whole;
+          tokens = a_sign sign.CloseParenthesis ∷ s.tokens;
+          phrase = λ tail h. record {
+            value = [];
+            front = a_sign sign.CloseParenthesis ∷ [];
+            back = s.tokens;
+            is = refl;
+            phrase = inl (record { value = a_sign sign.CloseParenthesis; front = a_sign sign.CloseParenthesis ∷ []; back = []; is = refl; phrase = record { passes = is-close; one = refl }; phrase' = record { value = refl; none = refl } });
+            phrase' = s.phrase tail h;
+          };
+        }
 
     -- '(' .. | ID targs? '?'?
     plain_correct : Correct (on (is_sign sign.OpenParenthesis) (λ _. behind_parenthesis part) (named_type true part >>= maybe_nullable)) (Either (IsInParentheses Part) (Seq (IsNamedType Part) (IsMaybeNullable Part))) Any TypeEnds
@@ -218,7 +237,7 @@ module _ (part : Parser Token TypeTree) (Part : TypeTree → List Token → List
     suspend_correct = bind_correct (token (is_sign sign.OpenParenthesis)) (λ _. maybe_commas (is_sign sign.CloseParenthesis) part >>= (λ ts. token (is_sign sign.Arrow) >> result_type true part ts)) (IsToken (is_sign sign.OpenParenthesis)) (λ _. Seq (MaybeCommaList (is_sign sign.Comma) (is_sign sign.CloseParenthesis) Part) (λ ts. Seq (IsToken (is_sign sign.Arrow)) (λ _. IsResult Part true ts))) Any Any Any TypeEnds
         (token_correct (is_sign sign.OpenParenthesis) (a_sign sign.OpenParenthesis) is-open Any Any)
         (λ _. bind_correct (maybe_commas (is_sign sign.CloseParenthesis) part) (λ ts. token (is_sign sign.Arrow) >> result_type true part ts) (MaybeCommaList (is_sign sign.Comma) (is_sign sign.CloseParenthesis) Part) (λ ts. Seq (IsToken (is_sign sign.Arrow)) (λ _. IsResult Part true ts)) Any Any Any TypeEnds listed (arrow_correct true) (λ a b u rest l h. tt)
-            (λ ts u l. let s = arrow_phrase true ts in record { whole = s.whole; tokens = s.tokens; phrase = λ tail h. (s.phrase tail h, tt) }))
+        (λ ts u l. let s = arrow_phrase true ts in record { whole = s.whole; tokens = s.tokens; phrase = λ tail h. (s.phrase tail h, tt) }))
         (λ a b u rest l h. tt)
         (λ a u l. let s = listed_phrase in record { whole = s.whole; tokens = s.tokens; phrase = λ tail h. (s.phrase tail h, tt) })
 
@@ -232,9 +251,13 @@ module _ (part : Parser Token TypeTree) (Part : TypeTree → List Token → List
     deep_correct = attempt_if_correct true (token (is_soft_keyword soft.Suspend) >> ahead (is_sign sign.OpenParenthesis)) (λ _. suspend_type part) (on (is_sign sign.OpenParenthesis) (λ _. behind_parenthesis part) (named_type true part >>= maybe_nullable))
         (IsSuspend Part) (λ _. IsSuspendType Part) (Either (IsInParentheses Part) (Seq (IsNamedType Part) (IsMaybeNullable Part))) Any TypeEnds
         (λ h. attempt_correct (token (is_soft_keyword soft.Suspend) >> ahead (is_sign sign.OpenParenthesis)) (λ _. suspend_type part) (on (is_sign sign.OpenParenthesis) (λ _. behind_parenthesis part) (named_type true part >>= maybe_nullable))
-            (IsSuspend Part) (λ _. IsSuspendType Part) (Either (IsInParentheses Part) (Seq (IsNamedType Part) (IsMaybeNullable Part))) NextOpen Any TypeEnds suspend_head_correct (λ _. suspend_correct) plain_correct
-            (λ a u l. let s = listed_phrase in record { whole = s.whole; tokens = a_sign sign.OpenParenthesis ∷ s.tokens; phrase = λ tail h.
-                (record { value = a_sign sign.OpenParenthesis; front = a_sign sign.OpenParenthesis ∷ []; back = s.tokens; is = refl; phrase = record { passes = is-open; one = refl }; phrase' = s.phrase tail h }, is-open) }))
+        (IsSuspend Part) (λ _. IsSuspendType Part) (Either (IsInParentheses Part) (Seq (IsNamedType Part) (IsMaybeNullable Part))) NextOpen Any TypeEnds suspend_head_correct (λ _. suspend_correct) plain_correct
+        (λ a u l. let s = listed_phrase in record {
+          whole = s.whole;
+          tokens = a_sign sign.OpenParenthesis ∷ s.tokens;
+          phrase = λ tail h.
+              (record { value = a_sign sign.OpenParenthesis; front = a_sign sign.OpenParenthesis ∷ []; back = s.tokens; is = refl; phrase = record { passes = is-open; one = refl }; phrase' = s.phrase tail h }, is-open);
+        }))
         plain_correct
 
 -- ---- a type begins with no `)`, and there is one
@@ -248,10 +271,10 @@ module _ (Part : TypeTree → List Token → List Token → Type 0) where
   suspend_no_close : (t : TypeTree) (u rest : List Token) → Seq (IsSuspend Part) (λ _. IsSuspendType Part) t u rest → first (is_sign sign.CloseParenthesis) (u ++ rest) ≡ false
   suspend_no_close t u rest s = seq_begins (is_sign sign.CloseParenthesis) (IsSuspend Part) (λ _. IsSuspendType Part) false
       (λ a v more m. seq_begins (is_sign sign.CloseParenthesis) (IsToken (is_soft_keyword soft.Suspend)) (λ _. IsAhead (is_sign sign.OpenParenthesis)) false
-          (λ b w last l. ap (λ (z : List Token). first (is_sign sign.CloseParenthesis) (z ++ last)) l.one ∙ soft_no_sign soft.Suspend sign.CloseParenthesis b l.passes) a v more m) t u rest s
+      (λ b w last l. ap (λ (z : List Token). first (is_sign sign.CloseParenthesis) (z ++ last)) l.one ∙ soft_no_sign soft.Suspend sign.CloseParenthesis b l.passes) a v more m) t u rest s
 
   pub no_close_of : (deep : Bool) (t : TypeTree) (u rest : List Token) → IsTypeOver Part deep t u rest → first (is_sign sign.CloseParenthesis) (u ++ rest) ≡ false
-  no_close_of deep t u rest (inl x) = elim x.1 [ | inl s ↦ suspend_no_close t u rest s | inr m ↦ plain_no_close t u rest m.0 ]
+  no_close_of deep t u rest (inl x) = elim x.1 [ inl s ↦ suspend_no_close t u rest s | inr m ↦ plain_no_close t u rest m.0 ]
   no_close_of deep t u rest (inr x) = plain_no_close t u rest x.1
 
   a_type : TypeTree
@@ -259,9 +282,14 @@ module _ (Part : TypeTree → List Token → List Token → Type 0) where
 
   name_is_type : (tail : List Token) → TypeEnds a_type tail → Seq (IsNamedType Part) (IsMaybeNullable Part) a_type (a_name ∷ []) tail
   unfolding a_type
-  name_is_type tail h = record { value = named (120 ∷ []) (types_of []); front = a_name ∷ []; back = []; is = refl;
-      phrase = record { value = a_name; front = a_name ∷ []; back = []; is = refl; phrase = record { passes = refl; one = refl }; phrase' = inr (record { value = refl; none = refl }, no_arguments Part tail h.no_less) };
-      phrase' = maybe_nullable_phrase Part (named (120 ∷ []) (types_of [])) tail h }
+  name_is_type tail h = record {
+    value = named (120 ∷ []) (types_of []);
+    front = a_name ∷ [];
+    back = [];
+    is = refl;
+    phrase = record { value = a_name; front = a_name ∷ []; back = []; is = refl; phrase = record { passes = refl; one = refl }; phrase' = inr (record { value = refl; none = refl }, no_arguments Part tail h.no_less) };
+    phrase' = maybe_nullable_phrase Part (named (120 ∷ []) (types_of [])) tail h;
+  }
 
   no_suspend : (tail : List Token) → NotReads (IsSuspend Part) (a_name ∷ tail)
   no_suspend tail = not_reads (is_soft_keyword soft.Suspend) (IsSuspend Part) (λ a u rest s. seq_begins (is_soft_keyword soft.Suspend) (IsToken (is_soft_keyword soft.Suspend)) (λ _. IsAhead (is_sign sign.OpenParenthesis)) true (token_begins (is_soft_keyword soft.Suspend)) a u rest s) (a_name ∷ tail) refl
@@ -291,7 +319,7 @@ named_leaf : (t : TypeTree) (u rest : List Token) → Seq (IsToken is_identifier
 named_leaf t u rest s = record { value = s.value; front = s.front; back = s.back; is = s.is; phrase = s.phrase; phrase' = inr (s.phrase', no_empty_arguments (s.back ++ rest)) }
 
 leaf_named : (t : TypeTree) (u rest : List Token) → IsNamedType Empty t u rest → Seq (IsToken is_identifier) (λ x. IsNothing (named (name_of x) (types_of []))) t u rest
-leaf_named t u rest s = record { value = s.value; front = s.front; back = s.back; is = s.is; phrase = s.phrase; phrase' = elim s.phrase' [ | inl q ↦ absurd q.phrase.phrase'.phrase | inr m ↦ m.0 ] }
+leaf_named t u rest s = record { value = s.value; front = s.front; back = s.back; is = s.is; phrase = s.phrase; phrase' = elim s.phrase' [ inl q ↦ absurd q.phrase.phrase'.phrase | inr m ↦ m.0 ] }
 
 no_result : (ts : List TypeTree) (t : TypeTree) (u rest : List Token) → ts ≡ [] → IsBehindTypes Empty ts t u rest → ⊥
 no_result [] t u rest e s = s.phrase'.phrase
@@ -299,7 +327,7 @@ no_result (x ∷ []) t u rest e s = absurd (omega (arith, ap length e))
 no_result (x ∷ y ∷ ts) t u rest e s = s.phrase'.phrase
 
 no_parentheses : (t : TypeTree) (u rest : List Token) → IsInParentheses Empty t u rest → ⊥
-no_parentheses t u rest s = elim s.phrase'.phrase [ | inl q ↦ no_result s.phrase'.value t s.phrase'.back rest q.phrase'.value s.phrase'.phrase' | inr q ↦ q.phrase ]
+no_parentheses t u rest s = elim s.phrase'.phrase [ inl q ↦ no_result s.phrase'.value t s.phrase'.back rest q.phrase'.value s.phrase'.phrase' | inr q ↦ q.phrase ]
 
 leaf_is_type : (t : TypeTree) (u rest : List Token) → IsLeaf t u rest → IsTypeOver Empty false t u rest
 leaf_is_type t u rest s = inr (refl, inr (record { value = s.value; front = s.front; back = s.back; is = s.is; phrase = named_leaf s.value s.front (s.back ++ rest) s.phrase; phrase' = s.phrase' }))
@@ -308,7 +336,8 @@ type_is_leaf : (t : TypeTree) (u rest : List Token) → IsTypeOver Empty false t
 type_is_leaf t u rest (inl x) = absurd (let e : false ≡ true = x.0 in cc)
 type_is_leaf t u rest (inr x) = elim x.1 [
   | inl s ↦ absurd (no_parentheses t u rest s)
-  | inr s ↦ record { value = s.value; front = s.front; back = s.back; is = s.is; phrase = leaf_named s.value s.front (s.back ++ rest) s.phrase; phrase' = s.phrase' } ]
+  | inr s ↦ record { value = s.value; front = s.front; back = s.back; is = s.is; phrase = leaf_named s.value s.front (s.back ++ rest) s.phrase; phrase' = s.phrase' }
+]
 
 -- ---- types of any number of levels
 

@@ -15,3 +15,4 @@ pub mod Readers
 pub mod ExpressionParser
 pub mod StatementParser
 pub mod DeclarationParser
+pub mod Laws
