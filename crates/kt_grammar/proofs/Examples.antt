@@ -1,5 +1,5 @@
 -- Worked examples: short lists of tokens, and the index of the token at which they are refused.
-use Rattle.std.proofs.Common.{◌≡◌, ℕ, zero, suc, false, List, [], ◌∷◌, ◌++◌, None, Some, refl}
+use Rattle.std.proofs.Common.{◌≡◌, ℕ, zero, suc, ◌+◌, Bool, true, false, List, [], ◌∷◌, ◌++◌, length, Option, None, Some, refl}
 use Rattle.kt_tree.specs.declared.tokens.Token.{Token}
 use Rattle.kt_tree.specs.declared.tokens.TokenKind.{TokenKind}
 use Rattle.kt_tree.specs.declared.tokens.TokenKind.TheVariants as kind
@@ -165,380 +165,395 @@ statement_26 : refused_in (body (at (kind.Keyword word.Val) ∷ name (120 ∷ []
 unfolding file_parser further token skip on attempt loop ahead meant type_parser parsers most_levels same_keyword same_sign
 statement_26 = refl
 
--- x NL . f ( )
-statement_27 : refused_in (body (name (120 ∷ []) ∷ at kind.NewLine ∷ at (kind.Sign sign.Dot) ∷ name (102 ∷ []) ∷ at (kind.Sign sign.OpenParenthesis) ∷ at (kind.Sign sign.CloseParenthesis) ∷ [])) ≡ None
+-- when ( x ) { 1 -> if ( c ) a NL else -> b }
+statement_27 : refused_in (body (at (kind.Keyword word.When) ∷ at (kind.Sign sign.OpenParenthesis) ∷ name (120 ∷ []) ∷ at (kind.Sign sign.CloseParenthesis) ∷ at (kind.Sign sign.OpenBrace) ∷ number 1 ∷ at (kind.Sign sign.Arrow) ∷ at (kind.Keyword word.If) ∷ at (kind.Sign sign.OpenParenthesis) ∷ name (99 ∷ []) ∷ at (kind.Sign sign.CloseParenthesis) ∷ name (97 ∷ []) ∷ at kind.NewLine ∷ at (kind.Keyword word.Else) ∷ at (kind.Sign sign.Arrow) ∷ name (98 ∷ []) ∷ at (kind.Sign sign.CloseBrace) ∷ [])) ≡ None
 unfolding file_parser further token skip on attempt loop ahead meant type_parser parsers most_levels same_keyword same_sign
 statement_27 = refl
 
--- x ?. y NL ?. z
-statement_28 : refused_in (body (name (120 ∷ []) ∷ at (kind.Sign sign.SafeDot) ∷ name (121 ∷ []) ∷ at kind.NewLine ∷ at (kind.Sign sign.SafeDot) ∷ name (122 ∷ []) ∷ [])) ≡ None
+-- when ( x ) { 1 -> if ( c ) a else b ; else -> d }
+statement_28 : refused_in (body (at (kind.Keyword word.When) ∷ at (kind.Sign sign.OpenParenthesis) ∷ name (120 ∷ []) ∷ at (kind.Sign sign.CloseParenthesis) ∷ at (kind.Sign sign.OpenBrace) ∷ number 1 ∷ at (kind.Sign sign.Arrow) ∷ at (kind.Keyword word.If) ∷ at (kind.Sign sign.OpenParenthesis) ∷ name (99 ∷ []) ∷ at (kind.Sign sign.CloseParenthesis) ∷ name (97 ∷ []) ∷ at (kind.Keyword word.Else) ∷ name (98 ∷ []) ∷ at (kind.Sign sign.Semicolon) ∷ at (kind.Keyword word.Else) ∷ at (kind.Sign sign.Arrow) ∷ name (100 ∷ []) ∷ at (kind.Sign sign.CloseBrace) ∷ [])) ≡ None
 unfolding file_parser further token skip on attempt loop ahead meant type_parser parsers most_levels same_keyword same_sign
 statement_28 = refl
 
--- - a . b
-statement_29 : refused_in (body (at (kind.Sign sign.Minus) ∷ name (97 ∷ []) ∷ at (kind.Sign sign.Dot) ∷ name (98 ∷ []) ∷ [])) ≡ None
+-- if ( c ) a else -> b
+statement_29 : refused_in (body (at (kind.Keyword word.If) ∷ at (kind.Sign sign.OpenParenthesis) ∷ name (99 ∷ []) ∷ at (kind.Sign sign.CloseParenthesis) ∷ name (97 ∷ []) ∷ at (kind.Keyword word.Else) ∷ at (kind.Sign sign.Arrow) ∷ name (98 ∷ []) ∷ [])) ≡ Some 11
 unfolding file_parser further token skip on attempt loop ahead meant type_parser parsers most_levels same_keyword same_sign
 statement_29 = refl
 
--- ! - a
-statement_30 : refused_in (body (at (kind.Sign sign.Not) ∷ at (kind.Sign sign.Minus) ∷ name (97 ∷ []) ∷ [])) ≡ None
+-- x NL . f ( )
+statement_30 : refused_in (body (name (120 ∷ []) ∷ at kind.NewLine ∷ at (kind.Sign sign.Dot) ∷ name (102 ∷ []) ∷ at (kind.Sign sign.OpenParenthesis) ∷ at (kind.Sign sign.CloseParenthesis) ∷ [])) ≡ None
 unfolding file_parser further token skip on attempt loop ahead meant type_parser parsers most_levels same_keyword same_sign
 statement_30 = refl
 
--- a as B < c
-statement_31 : refused_in (body (name (97 ∷ []) ∷ at (kind.Keyword word.As) ∷ name (66 ∷ []) ∷ at (kind.Sign sign.Less) ∷ name (99 ∷ []) ∷ [])) ≡ None
+-- x ?. y NL ?. z
+statement_31 : refused_in (body (name (120 ∷ []) ∷ at (kind.Sign sign.SafeDot) ∷ name (121 ∷ []) ∷ at kind.NewLine ∷ at (kind.Sign sign.SafeDot) ∷ name (122 ∷ []) ∷ [])) ≡ None
 unfolding file_parser further token skip on attempt loop ahead meant type_parser parsers most_levels same_keyword same_sign
 statement_31 = refl
 
--- a as? B ?: c
-statement_32 : refused_in (body (name (97 ∷ []) ∷ at (kind.Sign sign.SafeAs) ∷ name (66 ∷ []) ∷ at (kind.Sign sign.Elvis) ∷ name (99 ∷ []) ∷ [])) ≡ None
+-- - a . b
+statement_32 : refused_in (body (at (kind.Sign sign.Minus) ∷ name (97 ∷ []) ∷ at (kind.Sign sign.Dot) ∷ name (98 ∷ []) ∷ [])) ≡ None
 unfolding file_parser further token skip on attempt loop ahead meant type_parser parsers most_levels same_keyword same_sign
 statement_32 = refl
 
--- a as B ? as C
-statement_33 : refused_in (body (name (97 ∷ []) ∷ at (kind.Keyword word.As) ∷ name (66 ∷ []) ∷ at (kind.Sign sign.Question) ∷ at (kind.Keyword word.As) ∷ name (67 ∷ []) ∷ [])) ≡ None
+-- ! - a
+statement_33 : refused_in (body (at (kind.Sign sign.Not) ∷ at (kind.Sign sign.Minus) ∷ name (97 ∷ []) ∷ [])) ≡ None
 unfolding file_parser further token skip on attempt loop ahead meant type_parser parsers most_levels same_keyword same_sign
 statement_33 = refl
 
--- val f : ( Int ) -> Int ? = g
-statement_34 : refused_in (body (at (kind.Keyword word.Val) ∷ name (102 ∷ []) ∷ at (kind.Sign sign.Colon) ∷ at (kind.Sign sign.OpenParenthesis) ∷ name (73 ∷ 110 ∷ 116 ∷ []) ∷ at (kind.Sign sign.CloseParenthesis) ∷ at (kind.Sign sign.Arrow) ∷ name (73 ∷ 110 ∷ 116 ∷ []) ∷ at (kind.Sign sign.Question) ∷ at (kind.Sign sign.Assign) ∷ name (103 ∷ []) ∷ [])) ≡ None
+-- a as B < c
+statement_34 : refused_in (body (name (97 ∷ []) ∷ at (kind.Keyword word.As) ∷ name (66 ∷ []) ∷ at (kind.Sign sign.Less) ∷ name (99 ∷ []) ∷ [])) ≡ None
 unfolding file_parser further token skip on attempt loop ahead meant type_parser parsers most_levels same_keyword same_sign
 statement_34 = refl
 
--- val f : suspend ( ) -> Unit
-statement_35 : refused_in (body (at (kind.Keyword word.Val) ∷ name (102 ∷ []) ∷ at (kind.Sign sign.Colon) ∷ soft_word soft.Suspend ∷ at (kind.Sign sign.OpenParenthesis) ∷ at (kind.Sign sign.CloseParenthesis) ∷ at (kind.Sign sign.Arrow) ∷ name (85 ∷ 110 ∷ 105 ∷ 116 ∷ []) ∷ [])) ≡ None
+-- a as? B ?: c
+statement_35 : refused_in (body (name (97 ∷ []) ∷ at (kind.Sign sign.SafeAs) ∷ name (66 ∷ []) ∷ at (kind.Sign sign.Elvis) ∷ name (99 ∷ []) ∷ [])) ≡ None
 unfolding file_parser further token skip on attempt loop ahead meant type_parser parsers most_levels same_keyword same_sign
 statement_35 = refl
 
--- val f : suspend
-statement_36 : refused_in (body (at (kind.Keyword word.Val) ∷ name (102 ∷ []) ∷ at (kind.Sign sign.Colon) ∷ soft_word soft.Suspend ∷ [])) ≡ None
+-- a as B ? as C
+statement_36 : refused_in (body (name (97 ∷ []) ∷ at (kind.Keyword word.As) ∷ name (66 ∷ []) ∷ at (kind.Sign sign.Question) ∷ at (kind.Keyword word.As) ∷ name (67 ∷ []) ∷ [])) ≡ None
 unfolding file_parser further token skip on attempt loop ahead meant type_parser parsers most_levels same_keyword same_sign
 statement_36 = refl
 
--- val f : ( A , B < C > ) -> ( D ) ?
-statement_37 : refused_in (body (at (kind.Keyword word.Val) ∷ name (102 ∷ []) ∷ at (kind.Sign sign.Colon) ∷ at (kind.Sign sign.OpenParenthesis) ∷ name (65 ∷ []) ∷ at (kind.Sign sign.Comma) ∷ name (66 ∷ []) ∷ at (kind.Sign sign.Less) ∷ name (67 ∷ []) ∷ at (kind.Sign sign.Greater) ∷ at (kind.Sign sign.CloseParenthesis) ∷ at (kind.Sign sign.Arrow) ∷ at (kind.Sign sign.OpenParenthesis) ∷ name (68 ∷ []) ∷ at (kind.Sign sign.CloseParenthesis) ∷ at (kind.Sign sign.Question) ∷ [])) ≡ None
+-- val f : ( Int ) -> Int ? = g
+statement_37 : refused_in (body (at (kind.Keyword word.Val) ∷ name (102 ∷ []) ∷ at (kind.Sign sign.Colon) ∷ at (kind.Sign sign.OpenParenthesis) ∷ name (73 ∷ 110 ∷ 116 ∷ []) ∷ at (kind.Sign sign.CloseParenthesis) ∷ at (kind.Sign sign.Arrow) ∷ name (73 ∷ 110 ∷ 116 ∷ []) ∷ at (kind.Sign sign.Question) ∷ at (kind.Sign sign.Assign) ∷ name (103 ∷ []) ∷ [])) ≡ None
 unfolding file_parser further token skip on attempt loop ahead meant type_parser parsers most_levels same_keyword same_sign
 statement_37 = refl
 
--- val f : ( A , B )
-statement_38 : refused_in (body (at (kind.Keyword word.Val) ∷ name (102 ∷ []) ∷ at (kind.Sign sign.Colon) ∷ at (kind.Sign sign.OpenParenthesis) ∷ name (65 ∷ []) ∷ at (kind.Sign sign.Comma) ∷ name (66 ∷ []) ∷ at (kind.Sign sign.CloseParenthesis) ∷ [])) ≡ Some 13
+-- val f : suspend ( ) -> Unit
+statement_38 : refused_in (body (at (kind.Keyword word.Val) ∷ name (102 ∷ []) ∷ at (kind.Sign sign.Colon) ∷ soft_word soft.Suspend ∷ at (kind.Sign sign.OpenParenthesis) ∷ at (kind.Sign sign.CloseParenthesis) ∷ at (kind.Sign sign.Arrow) ∷ name (85 ∷ 110 ∷ 105 ∷ 116 ∷ []) ∷ [])) ≡ None
 unfolding file_parser further token skip on attempt loop ahead meant type_parser parsers most_levels same_keyword same_sign
 statement_38 = refl
 
--- val f : ( ) -> A ? ?
-statement_39 : refused_in (body (at (kind.Keyword word.Val) ∷ name (102 ∷ []) ∷ at (kind.Sign sign.Colon) ∷ at (kind.Sign sign.OpenParenthesis) ∷ at (kind.Sign sign.CloseParenthesis) ∷ at (kind.Sign sign.Arrow) ∷ name (65 ∷ []) ∷ at (kind.Sign sign.Question) ∷ at (kind.Sign sign.Question) ∷ [])) ≡ Some 13
+-- val f : suspend
+statement_39 : refused_in (body (at (kind.Keyword word.Val) ∷ name (102 ∷ []) ∷ at (kind.Sign sign.Colon) ∷ soft_word soft.Suspend ∷ [])) ≡ None
 unfolding file_parser further token skip on attempt loop ahead meant type_parser parsers most_levels same_keyword same_sign
 statement_39 = refl
 
--- val f : ( A ) ?
-statement_40 : refused_in (body (at (kind.Keyword word.Val) ∷ name (102 ∷ []) ∷ at (kind.Sign sign.Colon) ∷ at (kind.Sign sign.OpenParenthesis) ∷ name (65 ∷ []) ∷ at (kind.Sign sign.CloseParenthesis) ∷ at (kind.Sign sign.Question) ∷ [])) ≡ None
+-- val f : ( A , B < C > ) -> ( D ) ?
+statement_40 : refused_in (body (at (kind.Keyword word.Val) ∷ name (102 ∷ []) ∷ at (kind.Sign sign.Colon) ∷ at (kind.Sign sign.OpenParenthesis) ∷ name (65 ∷ []) ∷ at (kind.Sign sign.Comma) ∷ name (66 ∷ []) ∷ at (kind.Sign sign.Less) ∷ name (67 ∷ []) ∷ at (kind.Sign sign.Greater) ∷ at (kind.Sign sign.CloseParenthesis) ∷ at (kind.Sign sign.Arrow) ∷ at (kind.Sign sign.OpenParenthesis) ∷ name (68 ∷ []) ∷ at (kind.Sign sign.CloseParenthesis) ∷ at (kind.Sign sign.Question) ∷ [])) ≡ None
 unfolding file_parser further token skip on attempt loop ahead meant type_parser parsers most_levels same_keyword same_sign
 statement_40 = refl
 
--- val f = { a , b -> a }
-statement_41 : refused_in (body (at (kind.Keyword word.Val) ∷ name (102 ∷ []) ∷ at (kind.Sign sign.Assign) ∷ at (kind.Sign sign.OpenBrace) ∷ name (97 ∷ []) ∷ at (kind.Sign sign.Comma) ∷ name (98 ∷ []) ∷ at (kind.Sign sign.Arrow) ∷ name (97 ∷ []) ∷ at (kind.Sign sign.CloseBrace) ∷ [])) ≡ None
+-- val f : ( A , B )
+statement_41 : refused_in (body (at (kind.Keyword word.Val) ∷ name (102 ∷ []) ∷ at (kind.Sign sign.Colon) ∷ at (kind.Sign sign.OpenParenthesis) ∷ name (65 ∷ []) ∷ at (kind.Sign sign.Comma) ∷ name (66 ∷ []) ∷ at (kind.Sign sign.CloseParenthesis) ∷ [])) ≡ Some 13
 unfolding file_parser further token skip on attempt loop ahead meant type_parser parsers most_levels same_keyword same_sign
 statement_41 = refl
 
--- val f = { a : Int -> NL a ; b NL }
-statement_42 : refused_in (body (at (kind.Keyword word.Val) ∷ name (102 ∷ []) ∷ at (kind.Sign sign.Assign) ∷ at (kind.Sign sign.OpenBrace) ∷ name (97 ∷ []) ∷ at (kind.Sign sign.Colon) ∷ name (73 ∷ 110 ∷ 116 ∷ []) ∷ at (kind.Sign sign.Arrow) ∷ at kind.NewLine ∷ name (97 ∷ []) ∷ at (kind.Sign sign.Semicolon) ∷ name (98 ∷ []) ∷ at kind.NewLine ∷ at (kind.Sign sign.CloseBrace) ∷ [])) ≡ None
+-- val f : ( ) -> A ? ?
+statement_42 : refused_in (body (at (kind.Keyword word.Val) ∷ name (102 ∷ []) ∷ at (kind.Sign sign.Colon) ∷ at (kind.Sign sign.OpenParenthesis) ∷ at (kind.Sign sign.CloseParenthesis) ∷ at (kind.Sign sign.Arrow) ∷ name (65 ∷ []) ∷ at (kind.Sign sign.Question) ∷ at (kind.Sign sign.Question) ∷ [])) ≡ Some 13
 unfolding file_parser further token skip on attempt loop ahead meant type_parser parsers most_levels same_keyword same_sign
 statement_42 = refl
 
--- val f = { }
-statement_43 : refused_in (body (at (kind.Keyword word.Val) ∷ name (102 ∷ []) ∷ at (kind.Sign sign.Assign) ∷ at (kind.Sign sign.OpenBrace) ∷ at (kind.Sign sign.CloseBrace) ∷ [])) ≡ None
+-- val f : ( A ) ?
+statement_43 : refused_in (body (at (kind.Keyword word.Val) ∷ name (102 ∷ []) ∷ at (kind.Sign sign.Colon) ∷ at (kind.Sign sign.OpenParenthesis) ∷ name (65 ∷ []) ∷ at (kind.Sign sign.CloseParenthesis) ∷ at (kind.Sign sign.Question) ∷ [])) ≡ None
 unfolding file_parser further token skip on attempt loop ahead meant type_parser parsers most_levels same_keyword same_sign
 statement_43 = refl
 
--- { a }
-statement_44 : refused_in (body (at (kind.Sign sign.OpenBrace) ∷ name (97 ∷ []) ∷ at (kind.Sign sign.CloseBrace) ∷ [])) ≡ Some 5
+-- val f = { a , b -> a }
+statement_44 : refused_in (body (at (kind.Keyword word.Val) ∷ name (102 ∷ []) ∷ at (kind.Sign sign.Assign) ∷ at (kind.Sign sign.OpenBrace) ∷ name (97 ∷ []) ∷ at (kind.Sign sign.Comma) ∷ name (98 ∷ []) ∷ at (kind.Sign sign.Arrow) ∷ name (97 ∷ []) ∷ at (kind.Sign sign.CloseBrace) ∷ [])) ≡ None
 unfolding file_parser further token skip on attempt loop ahead meant type_parser parsers most_levels same_keyword same_sign
 statement_44 = refl
 
--- if ( c ) { a } NL b
-statement_45 : refused_in (body (at (kind.Keyword word.If) ∷ at (kind.Sign sign.OpenParenthesis) ∷ name (99 ∷ []) ∷ at (kind.Sign sign.CloseParenthesis) ∷ at (kind.Sign sign.OpenBrace) ∷ name (97 ∷ []) ∷ at (kind.Sign sign.CloseBrace) ∷ at kind.NewLine ∷ name (98 ∷ []) ∷ [])) ≡ None
+-- val f = { a : Int -> NL a ; b NL }
+statement_45 : refused_in (body (at (kind.Keyword word.Val) ∷ name (102 ∷ []) ∷ at (kind.Sign sign.Assign) ∷ at (kind.Sign sign.OpenBrace) ∷ name (97 ∷ []) ∷ at (kind.Sign sign.Colon) ∷ name (73 ∷ 110 ∷ 116 ∷ []) ∷ at (kind.Sign sign.Arrow) ∷ at kind.NewLine ∷ name (97 ∷ []) ∷ at (kind.Sign sign.Semicolon) ∷ name (98 ∷ []) ∷ at kind.NewLine ∷ at (kind.Sign sign.CloseBrace) ∷ [])) ≡ None
 unfolding file_parser further token skip on attempt loop ahead meant type_parser parsers most_levels same_keyword same_sign
 statement_45 = refl
 
--- while ( c ) f { break }
-statement_46 : refused_in (body (at (kind.Keyword word.While) ∷ at (kind.Sign sign.OpenParenthesis) ∷ name (99 ∷ []) ∷ at (kind.Sign sign.CloseParenthesis) ∷ name (102 ∷ []) ∷ at (kind.Sign sign.OpenBrace) ∷ at (kind.Keyword word.Break) ∷ at (kind.Sign sign.CloseBrace) ∷ [])) ≡ Some 11
+-- val f = { }
+statement_46 : refused_in (body (at (kind.Keyword word.Val) ∷ name (102 ∷ []) ∷ at (kind.Sign sign.Assign) ∷ at (kind.Sign sign.OpenBrace) ∷ at (kind.Sign sign.CloseBrace) ∷ [])) ≡ None
 unfolding file_parser further token skip on attempt loop ahead meant type_parser parsers most_levels same_keyword same_sign
 statement_46 = refl
 
--- while ( c ) break
-statement_47 : refused_in (body (at (kind.Keyword word.While) ∷ at (kind.Sign sign.OpenParenthesis) ∷ name (99 ∷ []) ∷ at (kind.Sign sign.CloseParenthesis) ∷ at (kind.Keyword word.Break) ∷ [])) ≡ None
+-- { a }
+statement_47 : refused_in (body (at (kind.Sign sign.OpenBrace) ∷ name (97 ∷ []) ∷ at (kind.Sign sign.CloseBrace) ∷ [])) ≡ Some 5
 unfolding file_parser further token skip on attempt loop ahead meant type_parser parsers most_levels same_keyword same_sign
 statement_47 = refl
 
--- break
-statement_48 : refused_in (body (at (kind.Keyword word.Break) ∷ [])) ≡ Some 5
+-- if ( c ) { a } NL b
+statement_48 : refused_in (body (at (kind.Keyword word.If) ∷ at (kind.Sign sign.OpenParenthesis) ∷ name (99 ∷ []) ∷ at (kind.Sign sign.CloseParenthesis) ∷ at (kind.Sign sign.OpenBrace) ∷ name (97 ∷ []) ∷ at (kind.Sign sign.CloseBrace) ∷ at kind.NewLine ∷ name (98 ∷ []) ∷ [])) ≡ None
 unfolding file_parser further token skip on attempt loop ahead meant type_parser parsers most_levels same_keyword same_sign
 statement_48 = refl
 
--- while ( c ) { continue }
-statement_49 : refused_in (body (at (kind.Keyword word.While) ∷ at (kind.Sign sign.OpenParenthesis) ∷ name (99 ∷ []) ∷ at (kind.Sign sign.CloseParenthesis) ∷ at (kind.Sign sign.OpenBrace) ∷ at (kind.Keyword word.Continue) ∷ at (kind.Sign sign.CloseBrace) ∷ [])) ≡ None
+-- while ( c ) f { break }
+statement_49 : refused_in (body (at (kind.Keyword word.While) ∷ at (kind.Sign sign.OpenParenthesis) ∷ name (99 ∷ []) ∷ at (kind.Sign sign.CloseParenthesis) ∷ name (102 ∷ []) ∷ at (kind.Sign sign.OpenBrace) ∷ at (kind.Keyword word.Break) ∷ at (kind.Sign sign.CloseBrace) ∷ [])) ≡ Some 11
 unfolding file_parser further token skip on attempt loop ahead meant type_parser parsers most_levels same_keyword same_sign
 statement_49 = refl
 
--- do { break } while ( c )
-statement_50 : refused_in (body (at (kind.Keyword word.Do) ∷ at (kind.Sign sign.OpenBrace) ∷ at (kind.Keyword word.Break) ∷ at (kind.Sign sign.CloseBrace) ∷ at (kind.Keyword word.While) ∷ at (kind.Sign sign.OpenParenthesis) ∷ name (99 ∷ []) ∷ at (kind.Sign sign.CloseParenthesis) ∷ [])) ≡ None
+-- while ( c ) break
+statement_50 : refused_in (body (at (kind.Keyword word.While) ∷ at (kind.Sign sign.OpenParenthesis) ∷ name (99 ∷ []) ∷ at (kind.Sign sign.CloseParenthesis) ∷ at (kind.Keyword word.Break) ∷ [])) ≡ None
 unfolding file_parser further token skip on attempt loop ahead meant type_parser parsers most_levels same_keyword same_sign
 statement_50 = refl
 
--- do x
-statement_51 : refused_in (body (at (kind.Keyword word.Do) ∷ name (120 ∷ []) ∷ [])) ≡ Some 6
+-- break
+statement_51 : refused_in (body (at (kind.Keyword word.Break) ∷ [])) ≡ Some 5
 unfolding file_parser further token skip on attempt loop ahead meant type_parser parsers most_levels same_keyword same_sign
 statement_51 = refl
 
--- while ( break ) { }
-statement_52 : refused_in (body (at (kind.Keyword word.While) ∷ at (kind.Sign sign.OpenParenthesis) ∷ at (kind.Keyword word.Break) ∷ at (kind.Sign sign.CloseParenthesis) ∷ at (kind.Sign sign.OpenBrace) ∷ at (kind.Sign sign.CloseBrace) ∷ [])) ≡ Some 7
+-- while ( c ) { continue }
+statement_52 : refused_in (body (at (kind.Keyword word.While) ∷ at (kind.Sign sign.OpenParenthesis) ∷ name (99 ∷ []) ∷ at (kind.Sign sign.CloseParenthesis) ∷ at (kind.Sign sign.OpenBrace) ∷ at (kind.Keyword word.Continue) ∷ at (kind.Sign sign.CloseBrace) ∷ [])) ≡ None
 unfolding file_parser further token skip on attempt loop ahead meant type_parser parsers most_levels same_keyword same_sign
 statement_52 = refl
 
--- f { return }
-statement_53 : refused_in (body (name (102 ∷ []) ∷ at (kind.Sign sign.OpenBrace) ∷ at (kind.Keyword word.Return) ∷ at (kind.Sign sign.CloseBrace) ∷ [])) ≡ Some 7
+-- do { break } while ( c )
+statement_53 : refused_in (body (at (kind.Keyword word.Do) ∷ at (kind.Sign sign.OpenBrace) ∷ at (kind.Keyword word.Break) ∷ at (kind.Sign sign.CloseBrace) ∷ at (kind.Keyword word.While) ∷ at (kind.Sign sign.OpenParenthesis) ∷ name (99 ∷ []) ∷ at (kind.Sign sign.CloseParenthesis) ∷ [])) ≡ None
 unfolding file_parser further token skip on attempt loop ahead meant type_parser parsers most_levels same_keyword same_sign
 statement_53 = refl
 
--- return
-statement_54 : refused_in (body (at (kind.Keyword word.Return) ∷ [])) ≡ None
+-- do x
+statement_54 : refused_in (body (at (kind.Keyword word.Do) ∷ name (120 ∷ []) ∷ [])) ≡ Some 6
 unfolding file_parser further token skip on attempt loop ahead meant type_parser parsers most_levels same_keyword same_sign
 statement_54 = refl
 
--- return 1 + 2
-statement_55 : refused_in (body (at (kind.Keyword word.Return) ∷ number 1 ∷ at (kind.Sign sign.Plus) ∷ number 2 ∷ [])) ≡ None
+-- while ( break ) { }
+statement_55 : refused_in (body (at (kind.Keyword word.While) ∷ at (kind.Sign sign.OpenParenthesis) ∷ at (kind.Keyword word.Break) ∷ at (kind.Sign sign.CloseParenthesis) ∷ at (kind.Sign sign.OpenBrace) ∷ at (kind.Sign sign.CloseBrace) ∷ [])) ≡ Some 7
 unfolding file_parser further token skip on attempt loop ahead meant type_parser parsers most_levels same_keyword same_sign
 statement_55 = refl
 
--- throw a
-statement_56 : refused_in (body (at (kind.Keyword word.Throw) ∷ name (97 ∷ []) ∷ [])) ≡ None
+-- f { return }
+statement_56 : refused_in (body (name (102 ∷ []) ∷ at (kind.Sign sign.OpenBrace) ∷ at (kind.Keyword word.Return) ∷ at (kind.Sign sign.CloseBrace) ∷ [])) ≡ Some 7
 unfolding file_parser further token skip on attempt loop ahead meant type_parser parsers most_levels same_keyword same_sign
 statement_56 = refl
 
--- throw
-statement_57 : refused_in (body (at (kind.Keyword word.Throw) ∷ [])) ≡ Some 6
+-- return
+statement_57 : refused_in (body (at (kind.Keyword word.Return) ∷ [])) ≡ None
 unfolding file_parser further token skip on attempt loop ahead meant type_parser parsers most_levels same_keyword same_sign
 statement_57 = refl
 
--- a + return NL b
-statement_58 : refused_in (body (name (97 ∷ []) ∷ at (kind.Sign sign.Plus) ∷ at (kind.Keyword word.Return) ∷ at kind.NewLine ∷ name (98 ∷ []) ∷ [])) ≡ None
+-- return 1 + 2
+statement_58 : refused_in (body (at (kind.Keyword word.Return) ∷ number 1 ∷ at (kind.Sign sign.Plus) ∷ number 2 ∷ [])) ≡ None
 unfolding file_parser further token skip on attempt loop ahead meant type_parser parsers most_levels same_keyword same_sign
 statement_58 = refl
 
--- a = b
-statement_59 : refused_in (body (name (97 ∷ []) ∷ at (kind.Sign sign.Assign) ∷ name (98 ∷ []) ∷ [])) ≡ None
+-- throw a
+statement_59 : refused_in (body (at (kind.Keyword word.Throw) ∷ name (97 ∷ []) ∷ [])) ≡ None
 unfolding file_parser further token skip on attempt loop ahead meant type_parser parsers most_levels same_keyword same_sign
 statement_59 = refl
 
--- a + b = c
-statement_60 : refused_in (body (name (97 ∷ []) ∷ at (kind.Sign sign.Plus) ∷ name (98 ∷ []) ∷ at (kind.Sign sign.Assign) ∷ name (99 ∷ []) ∷ [])) ≡ Some 8
+-- throw
+statement_60 : refused_in (body (at (kind.Keyword word.Throw) ∷ [])) ≡ Some 6
 unfolding file_parser further token skip on attempt loop ahead meant type_parser parsers most_levels same_keyword same_sign
 statement_60 = refl
 
--- a . b = c
-statement_61 : refused_in (body (name (97 ∷ []) ∷ at (kind.Sign sign.Dot) ∷ name (98 ∷ []) ∷ at (kind.Sign sign.Assign) ∷ name (99 ∷ []) ∷ [])) ≡ None
+-- a + return NL b
+statement_61 : refused_in (body (name (97 ∷ []) ∷ at (kind.Sign sign.Plus) ∷ at (kind.Keyword word.Return) ∷ at kind.NewLine ∷ name (98 ∷ []) ∷ [])) ≡ None
 unfolding file_parser further token skip on attempt loop ahead meant type_parser parsers most_levels same_keyword same_sign
 statement_61 = refl
 
--- a ?. b = c
-statement_62 : refused_in (body (name (97 ∷ []) ∷ at (kind.Sign sign.SafeDot) ∷ name (98 ∷ []) ∷ at (kind.Sign sign.Assign) ∷ name (99 ∷ []) ∷ [])) ≡ Some 8
+-- a = b
+statement_62 : refused_in (body (name (97 ∷ []) ∷ at (kind.Sign sign.Assign) ∷ name (98 ∷ []) ∷ [])) ≡ None
 unfolding file_parser further token skip on attempt loop ahead meant type_parser parsers most_levels same_keyword same_sign
 statement_62 = refl
 
--- a [ 0 ] += 1
-statement_63 : refused_in (body (name (97 ∷ []) ∷ at (kind.Sign sign.OpenBracket) ∷ number 0 ∷ at (kind.Sign sign.CloseBracket) ∷ at (kind.Sign sign.PlusAssign) ∷ number 1 ∷ [])) ≡ None
+-- a + b = c
+statement_63 : refused_in (body (name (97 ∷ []) ∷ at (kind.Sign sign.Plus) ∷ name (98 ∷ []) ∷ at (kind.Sign sign.Assign) ∷ name (99 ∷ []) ∷ [])) ≡ Some 8
 unfolding file_parser further token skip on attempt loop ahead meant type_parser parsers most_levels same_keyword same_sign
 statement_63 = refl
 
--- a ++
-statement_64 : refused_in (body (name (97 ∷ []) ∷ at (kind.Sign sign.Increment) ∷ [])) ≡ None
+-- a . b = c
+statement_64 : refused_in (body (name (97 ∷ []) ∷ at (kind.Sign sign.Dot) ∷ name (98 ∷ []) ∷ at (kind.Sign sign.Assign) ∷ name (99 ∷ []) ∷ [])) ≡ None
 unfolding file_parser further token skip on attempt loop ahead meant type_parser parsers most_levels same_keyword same_sign
 statement_64 = refl
 
--- ( a ) = b
-statement_65 : refused_in (body (at (kind.Sign sign.OpenParenthesis) ∷ name (97 ∷ []) ∷ at (kind.Sign sign.CloseParenthesis) ∷ at (kind.Sign sign.Assign) ∷ name (98 ∷ []) ∷ [])) ≡ Some 8
+-- a ?. b = c
+statement_65 : refused_in (body (name (97 ∷ []) ∷ at (kind.Sign sign.SafeDot) ∷ name (98 ∷ []) ∷ at (kind.Sign sign.Assign) ∷ name (99 ∷ []) ∷ [])) ≡ Some 8
 unfolding file_parser further token skip on attempt loop ahead meant type_parser parsers most_levels same_keyword same_sign
 statement_65 = refl
 
--- f ( ) = b
-statement_66 : refused_in (body (name (102 ∷ []) ∷ at (kind.Sign sign.OpenParenthesis) ∷ at (kind.Sign sign.CloseParenthesis) ∷ at (kind.Sign sign.Assign) ∷ name (98 ∷ []) ∷ [])) ≡ Some 8
+-- a [ 0 ] += 1
+statement_66 : refused_in (body (name (97 ∷ []) ∷ at (kind.Sign sign.OpenBracket) ∷ number 0 ∷ at (kind.Sign sign.CloseBracket) ∷ at (kind.Sign sign.PlusAssign) ∷ number 1 ∷ [])) ≡ None
 unfolding file_parser further token skip on attempt loop ahead meant type_parser parsers most_levels same_keyword same_sign
 statement_66 = refl
 
--- a = b = c
-statement_67 : refused_in (body (name (97 ∷ []) ∷ at (kind.Sign sign.Assign) ∷ name (98 ∷ []) ∷ at (kind.Sign sign.Assign) ∷ name (99 ∷ []) ∷ [])) ≡ Some 8
+-- a ++
+statement_67 : refused_in (body (name (97 ∷ []) ∷ at (kind.Sign sign.Increment) ∷ [])) ≡ None
 unfolding file_parser further token skip on attempt loop ahead meant type_parser parsers most_levels same_keyword same_sign
 statement_67 = refl
 
--- val x
-statement_68 : refused_in (body (at (kind.Keyword word.Val) ∷ name (120 ∷ []) ∷ [])) ≡ None
+-- ( a ) = b
+statement_68 : refused_in (body (at (kind.Sign sign.OpenParenthesis) ∷ name (97 ∷ []) ∷ at (kind.Sign sign.CloseParenthesis) ∷ at (kind.Sign sign.Assign) ∷ name (98 ∷ []) ∷ [])) ≡ Some 8
 unfolding file_parser further token skip on attempt loop ahead meant type_parser parsers most_levels same_keyword same_sign
 statement_68 = refl
 
--- val x : Int = NL 1
-statement_69 : refused_in (body (at (kind.Keyword word.Val) ∷ name (120 ∷ []) ∷ at (kind.Sign sign.Colon) ∷ name (73 ∷ 110 ∷ 116 ∷ []) ∷ at (kind.Sign sign.Assign) ∷ at kind.NewLine ∷ number 1 ∷ [])) ≡ None
+-- f ( ) = b
+statement_69 : refused_in (body (name (102 ∷ []) ∷ at (kind.Sign sign.OpenParenthesis) ∷ at (kind.Sign sign.CloseParenthesis) ∷ at (kind.Sign sign.Assign) ∷ name (98 ∷ []) ∷ [])) ≡ Some 8
 unfolding file_parser further token skip on attempt loop ahead meant type_parser parsers most_levels same_keyword same_sign
 statement_69 = refl
 
--- val = 1
-statement_70 : refused_in (body (at (kind.Keyword word.Val) ∷ at (kind.Sign sign.Assign) ∷ number 1 ∷ [])) ≡ Some 6
+-- a = b = c
+statement_70 : refused_in (body (name (97 ∷ []) ∷ at (kind.Sign sign.Assign) ∷ name (98 ∷ []) ∷ at (kind.Sign sign.Assign) ∷ name (99 ∷ []) ∷ [])) ≡ Some 8
 unfolding file_parser further token skip on attempt loop ahead meant type_parser parsers most_levels same_keyword same_sign
 statement_70 = refl
 
--- var x = 1 y
-statement_71 : refused_in (body (at (kind.Keyword word.Var) ∷ name (120 ∷ []) ∷ at (kind.Sign sign.Assign) ∷ number 1 ∷ name (121 ∷ []) ∷ [])) ≡ Some 9
+-- val x
+statement_71 : refused_in (body (at (kind.Keyword word.Val) ∷ name (120 ∷ []) ∷ [])) ≡ None
 unfolding file_parser further token skip on attempt loop ahead meant type_parser parsers most_levels same_keyword same_sign
 statement_71 = refl
 
--- for ( i in a .. b ) c
-statement_72 : refused_in (body (at (kind.Keyword word.For) ∷ at (kind.Sign sign.OpenParenthesis) ∷ name (105 ∷ []) ∷ at (kind.Keyword word.In) ∷ name (97 ∷ []) ∷ at (kind.Sign sign.Range) ∷ name (98 ∷ []) ∷ at (kind.Sign sign.CloseParenthesis) ∷ name (99 ∷ []) ∷ [])) ≡ None
+-- val x : Int = NL 1
+statement_72 : refused_in (body (at (kind.Keyword word.Val) ∷ name (120 ∷ []) ∷ at (kind.Sign sign.Colon) ∷ name (73 ∷ 110 ∷ 116 ∷ []) ∷ at (kind.Sign sign.Assign) ∷ at kind.NewLine ∷ number 1 ∷ [])) ≡ None
 unfolding file_parser further token skip on attempt loop ahead meant type_parser parsers most_levels same_keyword same_sign
 statement_72 = refl
 
--- for ( i in a until b ) { break }
-statement_73 : refused_in (body (at (kind.Keyword word.For) ∷ at (kind.Sign sign.OpenParenthesis) ∷ name (105 ∷ []) ∷ at (kind.Keyword word.In) ∷ name (97 ∷ []) ∷ soft_word soft.Until ∷ name (98 ∷ []) ∷ at (kind.Sign sign.CloseParenthesis) ∷ at (kind.Sign sign.OpenBrace) ∷ at (kind.Keyword word.Break) ∷ at (kind.Sign sign.CloseBrace) ∷ [])) ≡ None
+-- val = 1
+statement_73 : refused_in (body (at (kind.Keyword word.Val) ∷ at (kind.Sign sign.Assign) ∷ number 1 ∷ [])) ≡ Some 6
 unfolding file_parser further token skip on attempt loop ahead meant type_parser parsers most_levels same_keyword same_sign
 statement_73 = refl
 
--- for ( i in a , b ) c
-statement_74 : refused_in (body (at (kind.Keyword word.For) ∷ at (kind.Sign sign.OpenParenthesis) ∷ name (105 ∷ []) ∷ at (kind.Keyword word.In) ∷ name (97 ∷ []) ∷ at (kind.Sign sign.Comma) ∷ name (98 ∷ []) ∷ at (kind.Sign sign.CloseParenthesis) ∷ name (99 ∷ []) ∷ [])) ≡ Some 10
+-- var x = 1 y
+statement_74 : refused_in (body (at (kind.Keyword word.Var) ∷ name (120 ∷ []) ∷ at (kind.Sign sign.Assign) ∷ number 1 ∷ name (121 ∷ []) ∷ [])) ≡ Some 9
 unfolding file_parser further token skip on attempt loop ahead meant type_parser parsers most_levels same_keyword same_sign
 statement_74 = refl
 
--- when ( x ) { 1 -> a ; is Int , 2 -> b NL else -> c }
-statement_75 : refused_in (body (at (kind.Keyword word.When) ∷ at (kind.Sign sign.OpenParenthesis) ∷ name (120 ∷ []) ∷ at (kind.Sign sign.CloseParenthesis) ∷ at (kind.Sign sign.OpenBrace) ∷ number 1 ∷ at (kind.Sign sign.Arrow) ∷ name (97 ∷ []) ∷ at (kind.Sign sign.Semicolon) ∷ at (kind.Keyword word.Is) ∷ name (73 ∷ 110 ∷ 116 ∷ []) ∷ at (kind.Sign sign.Comma) ∷ number 2 ∷ at (kind.Sign sign.Arrow) ∷ name (98 ∷ []) ∷ at kind.NewLine ∷ at (kind.Keyword word.Else) ∷ at (kind.Sign sign.Arrow) ∷ name (99 ∷ []) ∷ at (kind.Sign sign.CloseBrace) ∷ [])) ≡ None
+-- for ( i in a .. b ) c
+statement_75 : refused_in (body (at (kind.Keyword word.For) ∷ at (kind.Sign sign.OpenParenthesis) ∷ name (105 ∷ []) ∷ at (kind.Keyword word.In) ∷ name (97 ∷ []) ∷ at (kind.Sign sign.Range) ∷ name (98 ∷ []) ∷ at (kind.Sign sign.CloseParenthesis) ∷ name (99 ∷ []) ∷ [])) ≡ None
 unfolding file_parser further token skip on attempt loop ahead meant type_parser parsers most_levels same_keyword same_sign
 statement_75 = refl
 
--- when { is Int -> a }
-statement_76 : refused_in (body (at (kind.Keyword word.When) ∷ at (kind.Sign sign.OpenBrace) ∷ at (kind.Keyword word.Is) ∷ name (73 ∷ 110 ∷ 116 ∷ []) ∷ at (kind.Sign sign.Arrow) ∷ name (97 ∷ []) ∷ at (kind.Sign sign.CloseBrace) ∷ [])) ≡ Some 7
+-- for ( i in a until b ) { break }
+statement_76 : refused_in (body (at (kind.Keyword word.For) ∷ at (kind.Sign sign.OpenParenthesis) ∷ name (105 ∷ []) ∷ at (kind.Keyword word.In) ∷ name (97 ∷ []) ∷ soft_word soft.Until ∷ name (98 ∷ []) ∷ at (kind.Sign sign.CloseParenthesis) ∷ at (kind.Sign sign.OpenBrace) ∷ at (kind.Keyword word.Break) ∷ at (kind.Sign sign.CloseBrace) ∷ [])) ≡ None
 unfolding file_parser further token skip on attempt loop ahead meant type_parser parsers most_levels same_keyword same_sign
 statement_76 = refl
 
--- when { }
-statement_77 : refused_in (body (at (kind.Keyword word.When) ∷ at (kind.Sign sign.OpenBrace) ∷ at (kind.Sign sign.CloseBrace) ∷ [])) ≡ None
+-- for ( i in a , b ) c
+statement_77 : refused_in (body (at (kind.Keyword word.For) ∷ at (kind.Sign sign.OpenParenthesis) ∷ name (105 ∷ []) ∷ at (kind.Keyword word.In) ∷ name (97 ∷ []) ∷ at (kind.Sign sign.Comma) ∷ name (98 ∷ []) ∷ at (kind.Sign sign.CloseParenthesis) ∷ name (99 ∷ []) ∷ [])) ≡ Some 10
 unfolding file_parser further token skip on attempt loop ahead meant type_parser parsers most_levels same_keyword same_sign
 statement_77 = refl
 
--- when NL { a NL -> { } }
-statement_78 : refused_in (body (at (kind.Keyword word.When) ∷ at kind.NewLine ∷ at (kind.Sign sign.OpenBrace) ∷ name (97 ∷ []) ∷ at kind.NewLine ∷ at (kind.Sign sign.Arrow) ∷ at (kind.Sign sign.OpenBrace) ∷ at (kind.Sign sign.CloseBrace) ∷ at (kind.Sign sign.CloseBrace) ∷ [])) ≡ None
+-- when ( x ) { 1 -> a ; is Int , 2 -> b NL else -> c }
+statement_78 : refused_in (body (at (kind.Keyword word.When) ∷ at (kind.Sign sign.OpenParenthesis) ∷ name (120 ∷ []) ∷ at (kind.Sign sign.CloseParenthesis) ∷ at (kind.Sign sign.OpenBrace) ∷ number 1 ∷ at (kind.Sign sign.Arrow) ∷ name (97 ∷ []) ∷ at (kind.Sign sign.Semicolon) ∷ at (kind.Keyword word.Is) ∷ name (73 ∷ 110 ∷ 116 ∷ []) ∷ at (kind.Sign sign.Comma) ∷ number 2 ∷ at (kind.Sign sign.Arrow) ∷ name (98 ∷ []) ∷ at kind.NewLine ∷ at (kind.Keyword word.Else) ∷ at (kind.Sign sign.Arrow) ∷ name (99 ∷ []) ∷ at (kind.Sign sign.CloseBrace) ∷ [])) ≡ None
 unfolding file_parser further token skip on attempt loop ahead meant type_parser parsers most_levels same_keyword same_sign
 statement_78 = refl
 
--- when ( x ) { else , 1 -> a }
-statement_79 : refused_in (body (at (kind.Keyword word.When) ∷ at (kind.Sign sign.OpenParenthesis) ∷ name (120 ∷ []) ∷ at (kind.Sign sign.CloseParenthesis) ∷ at (kind.Sign sign.OpenBrace) ∷ at (kind.Keyword word.Else) ∷ at (kind.Sign sign.Comma) ∷ number 1 ∷ at (kind.Sign sign.Arrow) ∷ name (97 ∷ []) ∷ at (kind.Sign sign.CloseBrace) ∷ [])) ≡ Some 11
+-- when { is Int -> a }
+statement_79 : refused_in (body (at (kind.Keyword word.When) ∷ at (kind.Sign sign.OpenBrace) ∷ at (kind.Keyword word.Is) ∷ name (73 ∷ 110 ∷ 116 ∷ []) ∷ at (kind.Sign sign.Arrow) ∷ name (97 ∷ []) ∷ at (kind.Sign sign.CloseBrace) ∷ [])) ≡ Some 7
 unfolding file_parser further token skip on attempt loop ahead meant type_parser parsers most_levels same_keyword same_sign
 statement_79 = refl
 
--- a NL ?: b
-statement_80 : refused_in (body (name (97 ∷ []) ∷ at kind.NewLine ∷ at (kind.Sign sign.Elvis) ∷ name (98 ∷ []) ∷ [])) ≡ None
+-- when { }
+statement_80 : refused_in (body (at (kind.Keyword word.When) ∷ at (kind.Sign sign.OpenBrace) ∷ at (kind.Sign sign.CloseBrace) ∷ [])) ≡ None
 unfolding file_parser further token skip on attempt loop ahead meant type_parser parsers most_levels same_keyword same_sign
 statement_80 = refl
 
--- a NL && b NL || c
-statement_81 : refused_in (body (name (97 ∷ []) ∷ at kind.NewLine ∷ at (kind.Sign sign.Both) ∷ name (98 ∷ []) ∷ at kind.NewLine ∷ at (kind.Sign sign.Either) ∷ name (99 ∷ []) ∷ [])) ≡ None
+-- when NL { a NL -> { } }
+statement_81 : refused_in (body (at (kind.Keyword word.When) ∷ at kind.NewLine ∷ at (kind.Sign sign.OpenBrace) ∷ name (97 ∷ []) ∷ at kind.NewLine ∷ at (kind.Sign sign.Arrow) ∷ at (kind.Sign sign.OpenBrace) ∷ at (kind.Sign sign.CloseBrace) ∷ at (kind.Sign sign.CloseBrace) ∷ [])) ≡ None
 unfolding file_parser further token skip on attempt loop ahead meant type_parser parsers most_levels same_keyword same_sign
 statement_81 = refl
 
--- a NL + b
-statement_82 : refused_in (body (name (97 ∷ []) ∷ at kind.NewLine ∷ at (kind.Sign sign.Plus) ∷ name (98 ∷ []) ∷ [])) ≡ Some 7
+-- when ( x ) { else , 1 -> a }
+statement_82 : refused_in (body (at (kind.Keyword word.When) ∷ at (kind.Sign sign.OpenParenthesis) ∷ name (120 ∷ []) ∷ at (kind.Sign sign.CloseParenthesis) ∷ at (kind.Sign sign.OpenBrace) ∷ at (kind.Keyword word.Else) ∷ at (kind.Sign sign.Comma) ∷ number 1 ∷ at (kind.Sign sign.Arrow) ∷ name (97 ∷ []) ∷ at (kind.Sign sign.CloseBrace) ∷ [])) ≡ Some 11
 unfolding file_parser further token skip on attempt loop ahead meant type_parser parsers most_levels same_keyword same_sign
 statement_82 = refl
 
--- a NL - b
-statement_83 : refused_in (body (name (97 ∷ []) ∷ at kind.NewLine ∷ at (kind.Sign sign.Minus) ∷ name (98 ∷ []) ∷ [])) ≡ None
+-- a NL ?: b
+statement_83 : refused_in (body (name (97 ∷ []) ∷ at kind.NewLine ∷ at (kind.Sign sign.Elvis) ∷ name (98 ∷ []) ∷ [])) ≡ None
 unfolding file_parser further token skip on attempt loop ahead meant type_parser parsers most_levels same_keyword same_sign
 statement_83 = refl
 
--- a + NL b
-statement_84 : refused_in (body (name (97 ∷ []) ∷ at (kind.Sign sign.Plus) ∷ at kind.NewLine ∷ name (98 ∷ []) ∷ [])) ≡ None
+-- a NL && b NL || c
+statement_84 : refused_in (body (name (97 ∷ []) ∷ at kind.NewLine ∷ at (kind.Sign sign.Both) ∷ name (98 ∷ []) ∷ at kind.NewLine ∷ at (kind.Sign sign.Either) ∷ name (99 ∷ []) ∷ [])) ≡ None
 unfolding file_parser further token skip on attempt loop ahead meant type_parser parsers most_levels same_keyword same_sign
 statement_84 = refl
 
--- a == b == c
-statement_85 : refused_in (body (name (97 ∷ []) ∷ at (kind.Sign sign.Equal) ∷ name (98 ∷ []) ∷ at (kind.Sign sign.Equal) ∷ name (99 ∷ []) ∷ [])) ≡ None
+-- a NL + b
+statement_85 : refused_in (body (name (97 ∷ []) ∷ at kind.NewLine ∷ at (kind.Sign sign.Plus) ∷ name (98 ∷ []) ∷ [])) ≡ Some 7
 unfolding file_parser further token skip on attempt loop ahead meant type_parser parsers most_levels same_keyword same_sign
 statement_85 = refl
 
--- a is B
-statement_86 : refused_in (body (name (97 ∷ []) ∷ at (kind.Keyword word.Is) ∷ name (66 ∷ []) ∷ [])) ≡ None
+-- a NL - b
+statement_86 : refused_in (body (name (97 ∷ []) ∷ at kind.NewLine ∷ at (kind.Sign sign.Minus) ∷ name (98 ∷ []) ∷ [])) ≡ None
 unfolding file_parser further token skip on attempt loop ahead meant type_parser parsers most_levels same_keyword same_sign
 statement_86 = refl
 
--- a !is B
-statement_87 : refused_in (body (name (97 ∷ []) ∷ at (kind.Sign sign.NotIs) ∷ name (66 ∷ []) ∷ [])) ≡ None
+-- a + NL b
+statement_87 : refused_in (body (name (97 ∷ []) ∷ at (kind.Sign sign.Plus) ∷ at kind.NewLine ∷ name (98 ∷ []) ∷ [])) ≡ None
 unfolding file_parser further token skip on attempt loop ahead meant type_parser parsers most_levels same_keyword same_sign
 statement_87 = refl
 
--- a is B is C
-statement_88 : refused_in (body (name (97 ∷ []) ∷ at (kind.Keyword word.Is) ∷ name (66 ∷ []) ∷ at (kind.Keyword word.Is) ∷ name (67 ∷ []) ∷ [])) ≡ Some 8
+-- a == b == c
+statement_88 : refused_in (body (name (97 ∷ []) ∷ at (kind.Sign sign.Equal) ∷ name (98 ∷ []) ∷ at (kind.Sign sign.Equal) ∷ name (99 ∷ []) ∷ [])) ≡ None
 unfolding file_parser further token skip on attempt loop ahead meant type_parser parsers most_levels same_keyword same_sign
 statement_88 = refl
 
--- a and b or c
-statement_89 : refused_in (body (name (97 ∷ []) ∷ soft_word soft.And ∷ name (98 ∷ []) ∷ soft_word soft.Or ∷ name (99 ∷ []) ∷ [])) ≡ None
+-- a is B
+statement_89 : refused_in (body (name (97 ∷ []) ∷ at (kind.Keyword word.Is) ∷ name (66 ∷ []) ∷ [])) ≡ None
 unfolding file_parser further token skip on attempt loop ahead meant type_parser parsers most_levels same_keyword same_sign
 statement_89 = refl
 
--- 1 shl 2
-statement_90 : refused_in (body (number 1 ∷ soft_word soft.Shl ∷ number 2 ∷ [])) ≡ None
+-- a !is B
+statement_90 : refused_in (body (name (97 ∷ []) ∷ at (kind.Sign sign.NotIs) ∷ name (66 ∷ []) ∷ [])) ≡ None
 unfolding file_parser further token skip on attempt loop ahead meant type_parser parsers most_levels same_keyword same_sign
 statement_90 = refl
 
--- a . 1
-statement_91 : refused_in (body (name (97 ∷ []) ∷ at (kind.Sign sign.Dot) ∷ number 1 ∷ [])) ≡ Some 7
+-- a is B is C
+statement_91 : refused_in (body (name (97 ∷ []) ∷ at (kind.Keyword word.Is) ∷ name (66 ∷ []) ∷ at (kind.Keyword word.Is) ∷ name (67 ∷ []) ∷ [])) ≡ Some 8
 unfolding file_parser further token skip on attempt loop ahead meant type_parser parsers most_levels same_keyword same_sign
 statement_91 = refl
 
--- a !! . b [ 0 ] ( c )
-statement_92 : refused_in (body (name (97 ∷ []) ∷ at (kind.Sign sign.NotNull) ∷ at (kind.Sign sign.Dot) ∷ name (98 ∷ []) ∷ at (kind.Sign sign.OpenBracket) ∷ number 0 ∷ at (kind.Sign sign.CloseBracket) ∷ at (kind.Sign sign.OpenParenthesis) ∷ name (99 ∷ []) ∷ at (kind.Sign sign.CloseParenthesis) ∷ [])) ≡ None
+-- a and b or c
+statement_92 : refused_in (body (name (97 ∷ []) ∷ soft_word soft.And ∷ name (98 ∷ []) ∷ soft_word soft.Or ∷ name (99 ∷ []) ∷ [])) ≡ None
 unfolding file_parser further token skip on attempt loop ahead meant type_parser parsers most_levels same_keyword same_sign
 statement_92 = refl
 
--- " RUN ESC $ "
-statement_93 : refused_in (body (at kind.OpenQuote ∷ at (kind.Run (65 ∷ [])) ∷ at (kind.Escape 10) ∷ at kind.Dollar ∷ at kind.CloseQuote ∷ [])) ≡ None
+-- 1 shl 2
+statement_93 : refused_in (body (number 1 ∷ soft_word soft.Shl ∷ number 2 ∷ [])) ≡ None
 unfolding file_parser further token skip on attempt loop ahead meant type_parser parsers most_levels same_keyword same_sign
 statement_93 = refl
 
--- " ${ x } $x $this "
-statement_94 : refused_in (body (at kind.OpenQuote ∷ at kind.OpenTemplate ∷ name (120 ∷ []) ∷ at (kind.Sign sign.CloseBrace) ∷ at (kind.NamePart (120 ∷ [])) ∷ at kind.ThisPart ∷ at kind.CloseQuote ∷ [])) ≡ None
+-- a . 1
+statement_94 : refused_in (body (name (97 ∷ []) ∷ at (kind.Sign sign.Dot) ∷ number 1 ∷ [])) ≡ Some 7
 unfolding file_parser further token skip on attempt loop ahead meant type_parser parsers most_levels same_keyword same_sign
 statement_94 = refl
 
--- " ${ } "
-statement_95 : refused_in (body (at kind.OpenQuote ∷ at kind.OpenTemplate ∷ at (kind.Sign sign.CloseBrace) ∷ at kind.CloseQuote ∷ [])) ≡ Some 7
+-- a !! . b [ 0 ] ( c )
+statement_95 : refused_in (body (name (97 ∷ []) ∷ at (kind.Sign sign.NotNull) ∷ at (kind.Sign sign.Dot) ∷ name (98 ∷ []) ∷ at (kind.Sign sign.OpenBracket) ∷ number 0 ∷ at (kind.Sign sign.CloseBracket) ∷ at (kind.Sign sign.OpenParenthesis) ∷ name (99 ∷ []) ∷ at (kind.Sign sign.CloseParenthesis) ∷ [])) ≡ None
 unfolding file_parser further token skip on attempt loop ahead meant type_parser parsers most_levels same_keyword same_sign
 statement_95 = refl
 
--- true == null
-statement_96 : refused_in (body (at (kind.Keyword word.True) ∷ at (kind.Sign sign.Equal) ∷ at (kind.Keyword word.Null) ∷ [])) ≡ None
+-- " RUN ESC $ "
+statement_96 : refused_in (body (at kind.OpenQuote ∷ at (kind.Run (65 ∷ [])) ∷ at (kind.Escape 10) ∷ at kind.Dollar ∷ at kind.CloseQuote ∷ [])) ≡ None
 unfolding file_parser further token skip on attempt loop ahead meant type_parser parsers most_levels same_keyword same_sign
 statement_96 = refl
 
--- 'c'
-statement_97 : refused_in (body (at (kind.Character 99) ∷ [])) ≡ None
+-- " ${ x } $x $this "
+statement_97 : refused_in (body (at kind.OpenQuote ∷ at kind.OpenTemplate ∷ name (120 ∷ []) ∷ at (kind.Sign sign.CloseBrace) ∷ at (kind.NamePart (120 ∷ [])) ∷ at kind.ThisPart ∷ at kind.CloseQuote ∷ [])) ≡ None
 unfolding file_parser further token skip on attempt loop ahead meant type_parser parsers most_levels same_keyword same_sign
 statement_97 = refl
 
--- this . x
-statement_98 : refused_in (body (at (kind.Keyword word.This) ∷ at (kind.Sign sign.Dot) ∷ name (120 ∷ []) ∷ [])) ≡ None
+-- " ${ } "
+statement_98 : refused_in (body (at kind.OpenQuote ∷ at kind.OpenTemplate ∷ at (kind.Sign sign.CloseBrace) ∷ at kind.CloseQuote ∷ [])) ≡ Some 7
 unfolding file_parser further token skip on attempt loop ahead meant type_parser parsers most_levels same_keyword same_sign
 statement_98 = refl
 
--- ( )
-statement_99 : refused_in (body (at (kind.Sign sign.OpenParenthesis) ∷ at (kind.Sign sign.CloseParenthesis) ∷ [])) ≡ Some 6
+-- true == null
+statement_99 : refused_in (body (at (kind.Keyword word.True) ∷ at (kind.Sign sign.Equal) ∷ at (kind.Keyword word.Null) ∷ [])) ≡ None
 unfolding file_parser further token skip on attempt loop ahead meant type_parser parsers most_levels same_keyword same_sign
 statement_99 = refl
 
--- fun
-statement_100 : refused_in (body (at (kind.Keyword word.Fun) ∷ [])) ≡ Some 5
+-- 'c'
+statement_100 : refused_in (body (at (kind.Character 99) ∷ [])) ≡ None
 unfolding file_parser further token skip on attempt loop ahead meant type_parser parsers most_levels same_keyword same_sign
 statement_100 = refl
 
--- x : Int
-statement_101 : refused_in (body (name (120 ∷ []) ∷ at (kind.Sign sign.Colon) ∷ name (73 ∷ 110 ∷ 116 ∷ []) ∷ [])) ≡ Some 6
+-- this . x
+statement_101 : refused_in (body (at (kind.Keyword word.This) ∷ at (kind.Sign sign.Dot) ∷ name (120 ∷ []) ∷ [])) ≡ None
 unfolding file_parser further token skip on attempt loop ahead meant type_parser parsers most_levels same_keyword same_sign
 statement_101 = refl
+
+-- ( )
+statement_102 : refused_in (body (at (kind.Sign sign.OpenParenthesis) ∷ at (kind.Sign sign.CloseParenthesis) ∷ [])) ≡ Some 6
+unfolding file_parser further token skip on attempt loop ahead meant type_parser parsers most_levels same_keyword same_sign
+statement_102 = refl
+
+-- fun
+statement_103 : refused_in (body (at (kind.Keyword word.Fun) ∷ [])) ≡ Some 5
+unfolding file_parser further token skip on attempt loop ahead meant type_parser parsers most_levels same_keyword same_sign
+statement_103 = refl
+
+-- x : Int
+statement_104 : refused_in (body (name (120 ∷ []) ∷ at (kind.Sign sign.Colon) ∷ name (73 ∷ 110 ∷ 116 ∷ []) ∷ [])) ≡ Some 6
+unfolding file_parser further token skip on attempt loop ahead meant type_parser parsers most_levels same_keyword same_sign
+statement_104 = refl
 
 --
 declaration_1 : refused_in (file ([])) ≡ None

@@ -13,7 +13,7 @@ use Rattle.kt_tree.specs.Bodies as e
 use Rattle.kt_tree.specs.Bodies.{ExpressionTree, PartTree, ParameterTree, StatementTree, BodyTree, BlockTree, EntryTree, ConditionTree, CatchTree, expressions_of, parts_of, entries_of, conditions_of, catches_of, statements_of, maybe_expression}
 use Rattle.kt_tree.specs.Levels.{levels, parts_levels}
 use Rattle.kt_grammar.specs.Parsers.{some_levels, Parser, ◌>>=◌, ◌>>◌, pure, token, on, attempt, attempt_if, ahead, repeat, chain}
-use Rattle.kt_grammar.specs.Terminals.{either, name_of, is_open_quote, is_close_quote, is_name_part, is_this_part, is_open_template, literal_of, text_of, disjunction_of, conjunction_of, equality_of, comparison_of, elvis_of, infix_of, additive_of, multiplicative_of, prefix_of, type_check_of, cast_of, member_of}
+use Rattle.kt_grammar.specs.Terminals.{is_no_arrow, either, name_of, is_open_quote, is_close_quote, is_name_part, is_this_part, is_open_template, literal_of, text_of, disjunction_of, conjunction_of, equality_of, comparison_of, elvis_of, infix_of, additive_of, multiplicative_of, prefix_of, type_check_of, cast_of, member_of}
 use Rattle.kt_grammar.specs.Levels.{Context, place, ends_in_name}
 use Rattle.kt_grammar.specs.Expressions.{in_lambda}
 use Rattle.kt_grammar.specs.Readers.{refuse, meant, on_if, lines, expect, maybe, maybe_commas, several_items, separated, type_arguments, type_parser}
@@ -87,12 +87,12 @@ module _ (room : ℕ) (below : Parsers) (at : Context) where
   abbrev pub lambda_parser : Parser Token ExpressionTree
   lambda_parser = expect sign.OpenBrace >>= lambda_rest
 
-  abbrev else_word : Parser Token Token
-  else_word = on (is_sign sign.Semicolon) (λ _. lines >> token (is_keyword word.Else)) (lines >> token (is_keyword word.Else))
+  abbrev else_word : Parser Token (Unit {0})
+  else_word = on (is_sign sign.Semicolon) (λ _. lines >> token (is_keyword word.Else)) (lines >> token (is_keyword word.Else)) >> (lines >> ahead is_no_arrow)
 
   abbrev if_rest : Token → Parser Token ExpressionTree
   if_rest t = expect sign.OpenParenthesis >> (below.disjunction at >>= (λ a. expect sign.CloseParenthesis >> (lines >> (below.body at >>= (λ b.
-      attempt else_word (λ _. lines >> (below.body at >>= (λ c. pure (e.if_else t.pos a b (e.some_body c))))) (pure (e.if_else t.pos a b e.no_body)))))))
+      attempt else_word (λ _. below.body at >>= (λ c. pure (e.if_else t.pos a b (e.some_body c)))) (pure (e.if_else t.pos a b e.no_body)))))))
 
   abbrev subject : Parser Token (Option ExpressionTree)
   subject = on_if deep (is_sign sign.OpenParenthesis) (λ _. below.disjunction at >>= (λ a. expect sign.CloseParenthesis >> pure (Some a))) (pure None)

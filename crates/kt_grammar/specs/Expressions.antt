@@ -14,7 +14,7 @@ use Rattle.kt_tree.specs.Bodies.{ExpressionTree, PartTree, ParameterTree, Statem
 use Rattle.kt_tree.specs.Levels.{levels, parts_levels}
 use Rattle.kt_grammar.specs.Parsers.{some_levels}
 use Rattle.kt_grammar.specs.Phrases.{IsToken, Seq, Either, Loop, If, Where, WhereRoom, IsAhead}
-use Rattle.kt_grammar.specs.Terminals.{Meaning, either, name_of, is_open_quote, is_close_quote, is_name_part, is_this_part, is_open_template, literal_of, text_of, disjunction_of, conjunction_of, equality_of, comparison_of, elvis_of, infix_of, additive_of, multiplicative_of, prefix_of, type_check_of, cast_of, member_of}
+use Rattle.kt_grammar.specs.Terminals.{is_no_arrow, Meaning, either, name_of, is_open_quote, is_close_quote, is_name_part, is_this_part, is_open_template, literal_of, text_of, disjunction_of, conjunction_of, equality_of, comparison_of, elvis_of, infix_of, additive_of, multiplicative_of, prefix_of, type_check_of, cast_of, member_of}
 use Rattle.kt_grammar.specs.Words.{Empty, Gives, IsSign, IsKeyword, IsSoftKeyword, IsIdentifier, IsMeant, IsLines, IsPast, Maybe, MaybeCommaList, Several, Items, Directly}
 use Rattle.kt_grammar.specs.Types.{IsType, IsTypeArguments}
 use Rattle.kt_grammar.specs.Levels.{Context, Phrases, place, ends_in_name}
@@ -85,15 +85,16 @@ module _ (room : ℕ) (below : Phrases) (at : Context) where
   abbrev pub IsLambda : ExpressionTree → List Token → List Token → Type 0
   IsLambda = Seq (IsSign sign.OpenBrace) (λ t. Seq IsLines (λ _. Seq (Where IsLambdaHead Gives (Gives [])) (λ ps. Seq (IsBlockRest (below.statement in_lambda)) (λ b. Gives (e.lambda t.pos (e.lambda_of ps b))))))
 
-  -- ';'? n 'else'
-  abbrev pub IsElse : Token → List Token → List Token → Type 0
-  IsElse = Either (Seq (IsSign sign.Semicolon) (λ _. IsPast (IsKeyword word.Else))) (IsPast (IsKeyword word.Else))
+  -- ';'? n 'else' n
+  -- An `else` with `->` behind it begins an entry of a `when`.
+  abbrev pub IsElse : Unit {0} → List Token → List Token → Type 0
+  IsElse = Seq (Either (Seq (IsSign sign.Semicolon) (λ _. IsPast (IsKeyword word.Else))) (IsPast (IsKeyword word.Else))) (λ _. IsPast (IsAhead is_no_arrow))
 
   -- if : 'if' '(' expr ')' n body (';'? n 'else' n body)?
   -- An `else` belongs to the nearest `if`.
   abbrev pub IsIf : ExpressionTree → List Token → List Token → Type 0
   IsIf = Seq (IsKeyword word.If) (λ t. Seq (IsSign sign.OpenParenthesis) (λ _. Seq (below.disjunction at) (λ a. Seq (IsSign sign.CloseParenthesis) (λ _. Seq (IsPast (below.body at)) (λ b.
-      Where IsElse (λ _. Seq (IsPast (below.body at)) (λ c. Gives (e.if_else t.pos a b (e.some_body c)))) (Gives (e.if_else t.pos a b e.no_body)))))))
+      Where IsElse (λ _. Seq (below.body at) (λ c. Gives (e.if_else t.pos a b (e.some_body c)))) (Gives (e.if_else t.pos a b e.no_body)))))))
 
   -- ('(' expr ')')?
   abbrev pub IsSubject : Option ExpressionTree → List Token → List Token → Type 0

@@ -1,5 +1,5 @@
 -- The tokens that productions name, and what they stand for.
-use Rattle.std.specs.Prelude.{ℕ, Bool, true, false, ◌||◌, if◌then◌else◌, List, [], Option, None, Some}
+use Rattle.std.specs.Prelude.{not, ℕ, Bool, true, false, ◌||◌, if◌then◌else◌, List, [], Option, None, Some}
 use Rattle.kt_tree.specs.declared.tokens.Token.{Token}
 use Rattle.kt_tree.specs.declared.tokens.TokenKind.{TokenKind}
 use Rattle.kt_tree.specs.declared.tokens.TokenKind.TheVariants as kind
@@ -30,6 +30,10 @@ either a b token = a token || b token
 -- a line's end or `;`
 abbrev pub is_separator : Token → Bool
 is_separator = either is_new_line (is_sign sign.Semicolon)
+
+-- any token but `->`
+abbrev pub is_no_arrow : Token → Bool
+is_no_arrow token = not (is_sign sign.Arrow token)
 
 abbrev pub kind_is_end : TokenKind → Bool
 kind_is_end kind.End = true
