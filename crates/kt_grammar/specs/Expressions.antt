@@ -7,14 +7,14 @@ use Rattle.kt_tree.specs.declared.tokens.Sign.TheVariants as sign
 use Rattle.kt_tree.specs.declared.tokens.Keyword.TheVariants as word
 use Rattle.kt_tree.specs.declared.tokens.SoftKeyword.TheVariants as soft
 use Rattle.kt_tree.specs.declared.bodies.BinaryOperator.{BinaryOperator}
-use Rattle.kt_tree.specs.Tokens.{is_sign}
+use Rattle.kt_tree.specs.Tokens.{is_new_line, is_sign}
 use Rattle.kt_tree.specs.Types.{TypeTree}
 use Rattle.kt_tree.specs.Bodies as e
 use Rattle.kt_tree.specs.Bodies.{ExpressionTree, PartTree, ParameterTree, StatementTree, BlockTree, EntryTree, ConditionTree, CatchTree, expressions_of, parts_of, entries_of, conditions_of, catches_of, statements_of, maybe_expression}
 use Rattle.kt_tree.specs.Levels.{levels, parts_levels}
 use Rattle.kt_grammar.specs.Parsers.{some_levels}
-use Rattle.kt_grammar.specs.Phrases.{IsToken, Seq, Either, Loop, If, Where, WhereRoom, IsAhead}
-use Rattle.kt_grammar.specs.Terminals.{is_no_arrow, Meaning, either, name_of, is_open_quote, is_close_quote, is_name_part, is_this_part, is_open_template, literal_of, text_of, disjunction_of, conjunction_of, equality_of, comparison_of, elvis_of, infix_of, additive_of, multiplicative_of, prefix_of, type_check_of, cast_of, member_of}
+use Rattle.kt_grammar.specs.Phrases.{Chain, IsToken, Seq, Either, Loop, If, Where, WhereRoom, IsAhead}
+use Rattle.kt_grammar.specs.Terminals.{is_no_arrow, either, name_of, is_open_quote, is_close_quote, is_name_part, is_this_part, is_open_template, literal_of, text_of, disjunction_of, conjunction_of, equality_of, comparison_of, elvis_of, infix_of, additive_of, multiplicative_of, prefix_of, type_check_of, cast_of, member_of}
 use Rattle.kt_grammar.specs.Words.{Empty, Gives, IsSign, IsKeyword, IsSoftKeyword, IsIdentifier, IsMeant, IsLines, IsPast, Maybe, MaybeCommaList, Several, Items, Directly}
 use Rattle.kt_grammar.specs.Types.{IsType, IsTypeArguments}
 use Rattle.kt_grammar.specs.Levels.{Context, Phrases, place, ends_in_name}
@@ -195,29 +195,29 @@ module _ (room : ℕ) (below : Phrases) (at : Context) where
   abbrev pub IsCast : ExpressionTree → List Token → List Token → Type 0
   IsCast = Seq IsPrefixed (Loop CastTurn)
 
-  -- lead operator n operand
-  abbrev pub IsOperation : (Unit {0} → List Token → List Token → Type 0) → Meaning BinaryOperator → (ExpressionTree → List Token → List Token → Type 0) → {A : Type 0} → (ExpressionTree → A) → (ExpressionTree → A) → ExpressionTree → A → List Token → List Token → Type 0
-  IsOperation Lead of Operand done rest a = WhereRoom (has_more a) (Seq Lead (λ _. IsMeant of)) (λ o. Seq (IsPast Operand) (λ b. Gives (done (e.binary (place a) o.1 a b)))) (Gives (rest a))
+  -- the operator between two operands
+  abbrev pub joined : Token × BinaryOperator → ExpressionTree → ExpressionTree → ExpressionTree
+  joined o a b = e.binary (place a) o.1 a b
 
-  -- operand (lead operator n operand)*, grouped to the left
-  abbrev pub IsChain : (ExpressionTree → List Token → List Token → Type 0) → (Unit {0} → List Token → List Token → Type 0) → Meaning BinaryOperator → (ExpressionTree → List Token → List Token → Type 0) → ExpressionTree → List Token → List Token → Type 0
-  IsChain First Lead of Operand = Seq First (Loop (IsOperation Lead of Operand inl inr))
+  -- operand (operator n operand)*, grouped to the left, while there is room
+  abbrev pub IsChain : (ExpressionTree → List Token → List Token → Type 0) → (Token × BinaryOperator → List Token → List Token → Type 0) → (ExpressionTree → List Token → List Token → Type 0) → ExpressionTree → List Token → List Token → Type 0
+  IsChain First Operator Operand = Chain has_more First Operator is_new_line Operand joined
 
   -- mul : cast (('*' | '/' | '%') n cast)*
   abbrev pub IsMultiplicative : ExpressionTree → List Token → List Token → Type 0
-  IsMultiplicative = IsChain IsCast Directly multiplicative_of (below.cast at)
+  IsMultiplicative = IsChain IsCast (IsMeant multiplicative_of) (below.cast at)
 
   -- add : mul (('+' | '-') n mul)*
   abbrev pub IsAdditive : ExpressionTree → List Token → List Token → Type 0
-  IsAdditive = IsChain IsMultiplicative Directly additive_of (below.multiplicative at)
+  IsAdditive = IsChain IsMultiplicative (IsMeant additive_of) (below.multiplicative at)
 
   -- infixed : add (('and' | 'or' | 'xor' | 'shl' | 'shr' | 'ushr') n add)*
   abbrev pub IsInfix : ExpressionTree → List Token → List Token → Type 0
-  IsInfix = IsChain IsAdditive Directly infix_of (below.additive at)
+  IsInfix = IsChain IsAdditive (IsMeant infix_of) (below.additive at)
 
   -- elvis : infix (n '?:' n infix)*
   abbrev pub IsElvis : ExpressionTree → List Token → List Token → Type 0
-  IsElvis = IsChain IsInfix IsLines elvis_of (below.infixed at)
+  IsElvis = IsChain IsInfix (IsPast (IsMeant elvis_of)) (below.infixed at)
 
   -- test : elvis (('is' | '!is') n type)?
   abbrev pub IsTest : ExpressionTree → List Token → List Token → Type 0
@@ -225,16 +225,16 @@ module _ (room : ℕ) (below : Phrases) (at : Context) where
 
   -- cmp : test (('<' | '>' | '<=' | '>=') n test)?
   abbrev pub IsComparison : ExpressionTree → List Token → List Token → Type 0
-  IsComparison = Seq IsTest (IsOperation Directly comparison_of (below.test at) (λ a. a) (λ a. a))
+  IsComparison = Seq IsTest (λ a. WhereRoom (has_more a) (IsMeant comparison_of) (λ o. Seq (IsPast (below.test at)) (λ b. Gives (joined o a b))) (Gives a))
 
   -- eq : cmp (('==' | '!=') n cmp)*
   abbrev pub IsEquality : ExpressionTree → List Token → List Token → Type 0
-  IsEquality = IsChain IsComparison Directly equality_of (below.comparison at)
+  IsEquality = IsChain IsComparison (IsMeant equality_of) (below.comparison at)
 
   -- and : eq (n '&&' n eq)*
   abbrev pub IsConjunction : ExpressionTree → List Token → List Token → Type 0
-  IsConjunction = IsChain IsEquality IsLines conjunction_of (below.equality at)
+  IsConjunction = IsChain IsEquality (IsPast (IsMeant conjunction_of)) (below.equality at)
 
   -- expr : and (n '||' n and)*
   abbrev pub IsDisjunction : ExpressionTree → List Token → List Token → Type 0
-  IsDisjunction = IsChain IsConjunction IsLines disjunction_of (below.conjunction at)
+  IsDisjunction = IsChain IsConjunction (IsPast (IsMeant disjunction_of)) (below.conjunction at)
