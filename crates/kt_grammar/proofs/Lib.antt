@@ -15,3 +15,4 @@ pub mod Optional
 pub mod Apart
 pub mod TypesRead
 pub mod TypeLaws
+pub mod Meant
