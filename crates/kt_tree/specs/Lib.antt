@@ -1,0 +1,5 @@
+pub mod Tokens
+pub mod Types
+pub mod Bodies
+pub mod Declarations
+pub mod Levels
