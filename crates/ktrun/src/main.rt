@@ -7,19 +7,39 @@ mod running;
 mod statuses;
 mod words;
 
-use kt_outside::{RealFiles, RealSink};
+use kt_outside::{RealFiles, RealSink, Sink};
 use plain::plain_main;
+use statuses::{NO_MEMORY, USAGE, write_line};
 use std::process::ExitCode;
 use std::{env, io};
 
-fn main(rt: HostRuntime) -> io::Result<ExitCode> {
+fn main(rt: HostRuntime) -> ExitCode {
+    let mut err = RealSink::new(rt.stderr());
+    let status = match serve(&rt, &mut err) {
+        Ok(status) => status,
+        Err(error) => refuse(&mut err, &error),
+    };
+    ExitCode::from(status)
+}
+
+/// Does what the words of the process ask for, and gives the status. Fails where the words can't be had.
+fn serve<E: Sink>(rt: &HostRuntime, err: &mut E) -> io::Result<u8> {
     let alloc = rt.alloc();
-    let words = env::args(&rt)?.skip(1).collect::<Vec<String>>(alloc)?;
+    let words = env::args(rt)?.skip(1).collect::<Vec<String>>(alloc)?;
     let mut files = RealFiles::new(rt.clone()?, alloc);
     let mut out = RealSink::new(rt.stdout());
-    let mut err = RealSink::new(rt.stderr());
-    let outcome = plain_main(alloc, words.as_slice(), &mut files, &mut out, &mut err);
-    Ok(ExitCode::from(outcome.status))
+    Ok(plain_main(alloc, words.as_slice(), &mut files, &mut out, err).status)
+}
+
+/// The status where the words can't be had: memory was refused, or one of them isn't text.
+fn refuse<E: Sink>(err: &mut E, error: &io::Error) -> u8 {
+    let status = match error.kind() {
+        io::ErrorKind::OutOfMemory => NO_MEMORY,
+        _ => USAGE,
+    };
+    // A fault of this stream changes nothing.
+    let _ = write_line(err, status, "");
+    status
 }
 
 #[cfg(test)]
