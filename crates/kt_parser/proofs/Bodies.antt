@@ -1,19 +1,19 @@
 -- The body of a program is read up to its closing brace.
-use Rattle.std.proofs.Common.{◌≡◌, ℕ, ◌+◌, ◌<◌, ◌≤◌, Bool, true, false, cond, List, [], ◌∷◌, ◌++◌, Option, None, Some, length, refl, sym, ap, subst, ◌∙◌, arith}
+use Rattle.std.proofs.Common.{◌≡◌, ◌<◌, ◌≤◌, Bool, true, false, cond, List, [], ◌∷◌, ◌++◌, Option, None, Some, refl, sym, ap, ◌∙◌}
 use Rattle.std.specs.Prelude.{option_and_then}
-use Rattle.std.specs.List.{flat_map, list_all}
-use Rattle.std.proofs.lemmas.List.{append_assoc, append-nil, length-append}
+use Rattle.std.specs.List.{flat_map}
+use Rattle.std.proofs.lemmas.List.{append_assoc, append-nil}
 use Rattle.kt_base.specs.declared.stack_code.Plain.{Plain}
 use Rattle.kt_base.specs.declared.stack_code.Plain.TheVariants as plain
 use Rattle.kt_parser.specs.declared.first.words.Word.{Word}
 use Rattle.kt_parser.specs.declared.first.words.Word.TheVariants as word
-use Rattle.kt_parser.specs.Loops.{Turn, stop, go, fail, loop}
-use Rattle.kt_parser.specs.Programs.{Expression, IsSum, levels, expression_words, expression_code, Item, separator, call, is_separator, item_words, item_code, AreItems, Program, IsProgram, program_words, code_of}
-use Rattle.kt_parser.specs.Parsing.{Body, body_left, at_brace, item_at, body_turned, body_turn, body_at, ends_program, behind_head, finished, program_at, sum_at}
+use Rattle.kt_parser.specs.Loops.{stop, go, loop}
+use Rattle.kt_parser.specs.Programs.{Expression, IsSum, levels, expression_words, expression_code, Item, separator, call, is_separator, item_words, item_code, AreItems}
+use Rattle.kt_parser.specs.Parsing.{Body, body_left, at_brace, item_at, body_turned, body_turn, body_at, ends_program, finished, sum_at}
 use Rattle.kt_parser.proofs.Looping.{loop_stops, loop_fails, loop_goes, loop_keeps}
 use Rattle.kt_parser.proofs.Readers.{read_as}
 use Rattle.kt_parser.proofs.Expressions.{sum_complete}
-use Rattle.kt_parser.proofs.Items.{IsItem, item_sound, item_shorter, item_separates, item_calls, call_closed}
+use Rattle.kt_parser.proofs.Items.{item_sound, item_shorter, item_calls, call_closed}
 
 went_on : {A B : Type 0} (f : A → Option B) (o : Option A) (b : B) → option_and_then f o ≡ Some b → (a : A) × ((o ≡ Some a) × (f a ≡ Some b))
 went_on f None b h = cc

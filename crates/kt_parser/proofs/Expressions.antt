@@ -1,5 +1,5 @@
 -- Sums are read, and nothing else is.
-use Rattle.std.proofs.Common.{◌≡◌, ◌≢◌, ℕ, zero, suc, ◌+◌, ◌-◌, ◌<◌, ◌≤◌, max, List, [], ◌∷◌, ◌++◌, Option, None, Some, length, refl, sym, ap, subst, ◌∙◌, arith}
+use Rattle.std.proofs.Common.{◌≡◌, ◌≢◌, ℕ, zero, suc, ◌+◌, ◌-◌, ◌<◌, ◌≤◌, List, [], ◌∷◌, ◌++◌, Option, None, Some, length, refl, sym, ap, subst, ◌∙◌, arith}
 use Rattle.std.specs.Prelude.{option_and_then}
 use Rattle.std.specs.Option.{option_map}
 use Rattle.std.proofs.lemmas.List.{append_assoc}
@@ -7,7 +7,7 @@ use Rattle.kt_base.specs.declared.stack_code.Plain.{Plain}
 use Rattle.kt_base.specs.declared.stack_code.Plain.TheVariants as plain
 use Rattle.kt_parser.specs.declared.first.words.Word.{Word}
 use Rattle.kt_parser.specs.declared.first.words.Word.TheVariants as word
-use Rattle.kt_parser.specs.Programs.{Expression, number, parentheses, sum, difference, product, expression_words, expression_code, levels, IsSum, IsProduct, IsFactor}
+use Rattle.kt_parser.specs.Programs.{Expression, number, parentheses, sum, difference, product, expression_words, levels, IsSum, IsProduct, IsFactor}
 use Rattle.kt_parser.specs.Loops.{loop}
 use Rattle.kt_parser.specs.Parsing.{Parsed, Reader, words_left, chain_turn, joined, sum_operator, product_operator, behind_close, enclosed, behind_open, number_first, parentheses_with, parentheses_at, factor_with, nothing, chain, sum_at, inner_at, factor_at, product_at}
 use Rattle.kt_parser.proofs.Readers.{IsRead, Sound, Complete, Builds, read_as, chain_sound, Leads, operand_leads, operator_leads, leads_whole, chain_none, chain_starts, turn_stops, turn_fails, turn_goes, operand_shorter}

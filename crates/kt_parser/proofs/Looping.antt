@@ -1,6 +1,6 @@
 -- Laws of loops whose turns may fail and make the state smaller.
-use Rattle.std.proofs.Common.{◌≡◌, ℕ, zero, suc, ◌<◌, ◌≤◌, Option, Some, None, refl, sym, ap, subst, ◌∙◌, arith}
-use Rattle.kt_parser.specs.Loops.{Turn, stop, go, fail, followed, turns, loop}
+use Rattle.std.proofs.Common.{◌≡◌, ℕ, zero, suc, ◌<◌, ◌≤◌, Option, Some, None, refl, subst, arith}
+use Rattle.kt_parser.specs.Loops.{Turn, stop, go, fail, turns, loop}
 
 -- what a turn is
 pub data WhichTurn {S : Type 0} (t : Turn S) : Type 0 where

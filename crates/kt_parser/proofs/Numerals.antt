@@ -1,5 +1,5 @@
 -- The number that digits stand for.
-use Rattle.std.proofs.Common.{◌≡◌, ℕ, zero, suc, false, ◌+◌, ◌-◌, ◌*◌, ◌<◌, ◌≤◌, List, [], ◌∷◌, Option, Some, None, take, fold, refl, sym, ap, ◌∙◌, arith}
+use Rattle.std.proofs.Common.{◌≡◌, ℕ, zero, suc, false, ◌+◌, ◌-◌, ◌*◌, ◌<◌, ◌≤◌, List, [], ◌∷◌, Option, Some, None, take, fold, refl, arith}
 use Rattle.std.specs.Prelude.{nat_le, ℤ, pos, if◌then◌else◌}
 use borrow.Author.Tests.{lt-leb}
 use Rattle.kt_parser.specs.Texts.{number_of}

@@ -1,16 +1,16 @@
 -- A piece at the front of a text is found.
-use Rattle.std.proofs.Common.{◌≡◌, ℕ, zero, suc, ◌+◌, ◌-◌, ◌<◌, ◌≤◌, Bool, true, false, cond, ◌||◌, ◌&&◌, not, List, [], ◌∷◌, ◌++◌, Option, None, Some, length, take, drop, inl, inr, refl, sym, ap, subst, ◌∙◌, arith}
-use Rattle.std.specs.Prelude.{◌==◌, nat_le, ℤ, if◌then◌else◌}
+use Rattle.std.proofs.Common.{◌≡◌, ℕ, suc, ◌+◌, ◌-◌, ◌<◌, true, false, not, List, [], ◌∷◌, ◌++◌, Some, length, take, drop, inl, refl, sym, ap, ◌∙◌, arith}
+use Rattle.std.specs.Prelude.{◌==◌, nat_le, ℤ}
 use Rattle.std.specs.List.{list_all, prefix_len}
-use Rattle.std.proofs.lemmas.Bool.{ne_eqb, eqb-true, eq-eqb}
+use Rattle.std.proofs.lemmas.Bool.{ne_eqb}
 use borrow.Author.Tests.{le-leb}
 use Rattle.kt_parser.specs.declared.first.words.Word.{Word}
 use Rattle.kt_parser.specs.declared.first.words.Word.TheVariants as word
 use Rattle.kt_parser.specs.declared.first.scanning.Piece.{Piece}
 use Rattle.kt_parser.specs.declared.first.scanning.Piece.TheVariants as piece
-use Rattle.kt_parser.specs.Words.{spelling, is_digit, is_longer, word_from}
-use Rattle.kt_parser.specs.Texts.{IsPiece, space, tab, line_comment, comment, line_feed, carriage_return, token, IsSpelledBy, IsNumeralOf, EndsComment, closed, closes, opens, other, begins_mark, opens_comment, closes_comment, ends_line, ends_before, is_numeral, number_of}
-use Rattle.kt_parser.specs.Scanning.{Found, line_rest, comment_rest, gap_before, comment_at, line_end_at, token_before, number_before, number_at, word_at, some_word_at, piece_at}
+use Rattle.kt_parser.specs.Words.{spelling, is_digit}
+use Rattle.kt_parser.specs.Texts.{IsPiece, space, tab, line_comment, comment, line_feed, carriage_return, token, IsSpelledBy, IsNumeralOf, EndsComment, closed, closes, opens, other, begins_mark, opens_comment, closes_comment, ends_line, ends_before, number_of}
+use Rattle.kt_parser.specs.Scanning.{line_rest, comment_rest, comment_at, line_end_at, token_before, number_before, number_at, word_at, piece_at}
 use Rattle.std.proofs.Math.Seq.{take-append_seam, drop-append_seam}
 use Rattle.kt_parser.proofs.Tests.{both, neither, negated, no_digit}
 use Rattle.kt_parser.proofs.Pieces.{nonempty}

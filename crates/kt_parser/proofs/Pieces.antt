@@ -1,7 +1,7 @@
 -- What is found at the front of a text is a piece of it.
-use Rattle.std.proofs.Common.{◌≡◌, ℕ, zero, suc, ◌+◌, ◌-◌, ◌<◌, ◌≤◌, Bool, true, false, cond, ◌||◌, ◌&&◌, not, List, [], ◌∷◌, ◌++◌, Option, None, Some, length, take, drop, refl, sym, ap, subst, ◌∙◌, ⊎_elim, arith}
-use Rattle.std.specs.Prelude.{◌==◌, nat_le, pos, if◌then◌else◌}
-use Rattle.std.specs.Option.{option_map, IfSome}
+use Rattle.std.proofs.Common.{◌≡◌, ℕ, suc, ◌+◌, ◌-◌, ◌<◌, Bool, true, false, cond, ◌||◌, ◌&&◌, not, List, [], ◌∷◌, ◌++◌, Option, None, Some, length, take, drop, refl, sym, ap, subst, ◌∙◌, ⊎_elim, arith}
+use Rattle.std.specs.Prelude.{◌==◌, nat_le, pos}
+use Rattle.std.specs.Option.{IfSome}
 use Rattle.std.specs.List.{list_all, prefix_len}
 use Rattle.std.specs.Str.{bytes_eq}
 use Rattle.std.proofs.lemmas.Bool.{eqb-true, eqb-false}
@@ -12,10 +12,10 @@ use Rattle.kt_parser.specs.declared.first.words.Word.{Word}
 use Rattle.kt_parser.specs.declared.first.words.Word.TheVariants as word
 use Rattle.kt_parser.specs.declared.first.scanning.Piece.{Piece}
 use Rattle.kt_parser.specs.declared.first.scanning.Piece.TheVariants as piece
-use Rattle.kt_parser.specs.Words.{spelling, is_digit, is_longer, word_from}
-use Rattle.kt_parser.specs.Texts.{IsPiece, space, tab, line_comment, comment, line_feed, carriage_return, token, IsSpelledBy, IsNumeralOf, EndsComment, closed, closes, opens, other, begins_mark, opens_comment, closes_comment, ends_line, ends_before, is_numeral, number_of}
+use Rattle.kt_parser.specs.Words.{spelling, is_digit, word_from}
+use Rattle.kt_parser.specs.Texts.{IsPiece, space, tab, line_comment, comment, line_feed, carriage_return, token, IsSpelledBy, EndsComment, closed, closes, opens, other, begins_mark, opens_comment, closes_comment, ends_line, ends_before, is_numeral, number_of}
 use Rattle.kt_parser.specs.Scanning.{Found, line_rest, comment_rest, gap_before, comment_at, line_end_at, token_before, number_before, number_at, word_at, some_word_at, piece_at}
-use Rattle.kt_parser.proofs.Tests.{at, either, neither, both}
+use Rattle.kt_parser.proofs.Tests.{at, either, both}
 
 -- what is found is a piece at the front of the bytes
 abbrev pub IsFound : List ℕ → Found → Type 0

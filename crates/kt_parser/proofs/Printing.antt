@@ -6,13 +6,11 @@ use Rattle.std.specs.declared.alloc.Global.{Global}
 use Rattle.std.specs.Result.{IfOk}
 use Rattle.kt_parser.specs.declared.first.reading.FirstErr.{FirstErr}
 use Rattle.kt_parser.specs.declared.first.reading.FirstErr.TheVariants.{NoMemory}
-use Rattle.std.specs.Int.{w32, int_wrapping_add, int_wrapping_sub, int_wrapping_mul}
 use Rattle.std.specs.List.{flat_map}
 use Rattle.kt_base.specs.declared.stack_code.Plain.{Plain}
 use Rattle.kt_base.specs.declared.stack_code.Plain.TheVariants as plain
 use Rattle.kt_base.specs.StackCode.{Stacked, stepped, runs, nothing, Prints}
 use Rattle.kt_parser.specs.Programs.{Expression, number, parentheses, sum, difference, product, expression_code, value_of, Item, separator, call, item_code, item_values, Program, values_of, code_of, IsFirst}
-use Rattle.kt_parser.specs.Parsing.{first_of}
 use Rattle.kt_parser.specs.Laws.{OneMeaning}
 use Rattle.kt_parser.proofs.Subset.{first_again}
 

@@ -1,13 +1,13 @@
 -- Readers of expressions: what they read, and that they read it; chains of operators.
-use Rattle.std.proofs.Common.{◌≡◌, ℕ, zero, suc, ◌+◌, ◌<◌, ◌≤◌, max, Bool, true, false, cond, List, [], ◌∷◌, ◌++◌, Option, None, Some, length, refl, sym, ap, subst, ◌∙◌, arith}
+use Rattle.std.proofs.Common.{◌≡◌, ℕ, ◌+◌, ◌<◌, ◌≤◌, max, Bool, true, false, cond, List, [], ◌∷◌, ◌++◌, Option, None, Some, length, refl, sym, ap, ◌∙◌, arith}
 use Rattle.std.specs.Prelude.{option_and_then, nat_le}
-use Rattle.std.proofs.lemmas.List.{append_assoc, append-nil, length-append}
+use Rattle.std.proofs.lemmas.List.{append_assoc, length-append}
 use borrow.Author.Tests.{le-leb, leb-true}
 use Rattle.kt_base.specs.declared.stack_code.Plain.{Plain}
 use Rattle.kt_parser.specs.declared.first.words.Word.{Word}
 use Rattle.kt_parser.specs.declared.first.words.Word.TheVariants as word
 use Rattle.kt_parser.specs.Programs.{Expression, number, parentheses, sum, difference, product, expression_words, expression_code, levels}
-use Rattle.kt_parser.specs.Loops.{Turn, stop, go, fail, loop}
+use Rattle.kt_parser.specs.Loops.{Turn, go, loop}
 use Rattle.kt_parser.specs.Parsing.{Parsed, Reader, words_left, joined, turned, operand_turn, chain_turn, chain}
 use Rattle.kt_parser.proofs.Looping.{loop_stops, loop_goes, loop_fails, loop_keeps}
 

@@ -1,5 +1,5 @@
 -- Answers of the code that reads expressions.
-use Rattle.std.proofs.Common.{◌≡◌, ℕ, ◌+◌, ◌<◌, ◌≤◌, max, Bool, true, false, cond, List, [], ◌∷◌, ◌++◌, Option, None, Some, Result, Ok, Err, refl, sym, ap, subst, ◌∙◌, arith}
+use Rattle.std.proofs.Common.{◌≡◌, ℕ, ◌+◌, ◌<◌, ◌≤◌, max, Bool, true, false, cond, List, [], ◌∷◌, ◌++◌, Option, None, Some, Result, Ok, Err, refl, sym, ap, subst, ◌∙◌}
 use Rattle.std.specs.Prelude.{option_and_then, nat_le, Vec}
 use Rattle.std.specs.declared.alloc.Global.{Global}
 use Rattle.std.specs.Result.{IsErr, IsErrAnd}
@@ -11,7 +11,7 @@ use Rattle.kt_parser.specs.declared.first.reading.FirstErr.{FirstErr}
 use Rattle.kt_parser.specs.declared.first.reading.FirstErr.TheVariants.{NotBuilt, NoMemory}
 use Rattle.kt_parser.specs.Loops.{loop}
 use Rattle.kt_parser.specs.Answers.{Answers, Reads, ReadsItem, ReadsBody}
-use Rattle.kt_parser.specs.Parsing.{Parsed, Reader, Body, joined, words_left, chain_turn, behind_head, body_at, ends_program, finished, program_at}
+use Rattle.kt_parser.specs.Parsing.{Parsed, Reader, Body, joined, words_left, chain_turn, behind_head, body_at, ends_program, program_at}
 use Rattle.kt_parser.proofs.Expressions.{IsChain}
 
 -- an error of a part is that of the whole, if the whole can't be read where the part can't

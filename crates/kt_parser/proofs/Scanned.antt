@@ -1,13 +1,13 @@
 -- The tokens that are found are those of the text, and no others.
-use Rattle.std.proofs.Common.{◌≡◌, ℕ, ◌<◌, ◌≤◌, Bool, true, false, cond, List, [], ◌∷◌, ◌++◌, Option, None, Some, length, refl, sym, ap, subst, ◌∙◌, arith}
+use Rattle.std.proofs.Common.{◌≡◌, ℕ, ◌<◌, Bool, true, false, cond, List, [], ◌++◌, Option, None, Some, length, refl, sym, ap, subst, ◌∙◌, arith}
 use Rattle.std.specs.Prelude.{◌==◌}
 use Rattle.std.specs.Option.{option_map}
 use Rattle.std.proofs.lemmas.Bool.{ne_eqb, eqb-true, eq-eqb}
 use Rattle.std.proofs.lemmas.List.{nil_from_length, append_assoc, append-nil, length-append}
 use Rattle.kt_parser.specs.declared.first.words.Word.{Word}
 use Rattle.kt_parser.specs.declared.first.scanning.Piece.{Piece}
-use Rattle.kt_parser.specs.Texts.{Spells, ends, goes_on, IsPiece, seen, after}
-use Rattle.kt_parser.specs.Loops.{Turn, stop, go, fail, loop}
+use Rattle.kt_parser.specs.Texts.{Spells, ends, goes_on, seen, after}
+use Rattle.kt_parser.specs.Loops.{stop, go, loop}
 use Rattle.kt_parser.specs.Scanning.{Found, Scan, scanned, scan_turn, bytes_left, words_of, piece_at}
 use Rattle.kt_parser.proofs.Looping.{loop_stops, loop_fails, loop_goes, loop_keeps}
 use Rattle.kt_parser.proofs.Pieces.{IsFound, piece_found, piece_nonempty, rest_shorter}

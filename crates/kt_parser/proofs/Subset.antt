@@ -1,5 +1,5 @@
 -- The code of a text of the first subset is found, and no other text has code.
-use Rattle.std.proofs.Common.{◌≡◌, ℕ, ◌≤◌, Bool, true, false, cond, ◌&&◌, List, [], ◌∷◌, ◌++◌, Option, None, Some, Result, Ok, Err, length, refl, sym, ap, subst, ◌∙◌, arith}
+use Rattle.std.proofs.Common.{◌≡◌, ℕ, Bool, true, false, cond, ◌&&◌, List, [], ◌∷◌, ◌++◌, Option, None, Some, Result, Ok, Err, length, refl, sym, ap, subst, ◌∙◌}
 use Rattle.std.specs.Prelude.{option_and_then, nat_le, MatchResult, Vec}
 use Rattle.std.specs.declared.alloc.Global.{Global}
 use Rattle.std.specs.Result.{IfOk, IsErr, IsErrAnd, is_ok}
@@ -16,7 +16,7 @@ use Rattle.kt_parser.specs.declared.first.reading.FirstErr.TheVariants.{NotBuilt
 use Rattle.kt_parser.specs.Answers.{Answers}
 use Rattle.kt_parser.specs.Texts.{Spells}
 use Rattle.kt_parser.specs.Scanning.{words_of}
-use Rattle.kt_parser.specs.Parsing.{Body, at_brace, body_at, ends_program, behind_head, finished, program_at, may_be_first, first_of}
+use Rattle.kt_parser.specs.Parsing.{at_brace, body_at, ends_program, behind_head, finished, program_at, may_be_first, first_of}
 use Rattle.kt_parser.proofs.Tests.{both}
 use Rattle.kt_parser.proofs.Scanned.{words_spell, words_again}
 use Rattle.kt_parser.proofs.Bodies.{body_sound, body_again, all_words}

@@ -7,3 +7,6 @@ pub mod first;
 
 pub use first::laws::one_meaning;
 pub use first::reading::{FirstErr, parse_first};
+
+#[cfg(test)]
+mod table_tests;

@@ -1,6 +1,6 @@
-use Rattle.std.proofs.Common.{◌≡◌, [], true, refl, sym, ap, ◌∙◌}
+use Rattle.std.proofs.Common.{true, sym, ap, ◌∙◌}
 use Rattle.kt_parser.specs.Loops.{loop}
-use Rattle.kt_parser.specs.Parsing.{Body, body_left, body_turn, body_at}
+use Rattle.kt_parser.specs.Parsing.{body_left, body_turn, body_at}
 use Rattle.kt_parser.proofs.Items.{item_shorter}
 use Rattle.kt_parser.proofs.Bodies.{body_stops, body_fails, body_goes}
 use Rattle.kt_parser.proofs.Reading.{item_passes}

@@ -1,4 +1,4 @@
-use Rattle.std.proofs.Common.{◌≡◌, false, Some, sym, ap, ◌∙◌}
+use Rattle.std.proofs.Common.{false, Some, sym, ap, ◌∙◌}
 use Rattle.kt_parser.proofs.Items.{not_called, call_empty, call_unclosed, call_closed}
 use Rattle.kt_parser.proofs.Reading.{sum_passes}
 use Rattle.kt_parser.proofs.first.programs.call.Goals as goal

@@ -1,4 +1,4 @@
-use Rattle.std.proofs.Common.{◌≡◌, sym, subst, ◌∙◌}
+use Rattle.std.proofs.Common.{sym, subst}
 use Rattle.kt_parser.specs.Answers.{ReadsItem}
 use Rattle.kt_parser.proofs.Items.{item_separates, item_calls, item_stops}
 use Rattle.kt_parser.proofs.first.programs.item.Goals as goal

@@ -1,4 +1,4 @@
-use Rattle.std.proofs.Common.{◌≡◌, sym, ap, ◌∙◌}
+use Rattle.std.proofs.Common.{sym, ◌∙◌}
 use Rattle.kt_parser.proofs.Reading.{no_head, body_passes, program_ends, program_goes_on}
 use Rattle.kt_parser.proofs.first.programs.program.Goals as goal
 

@@ -1,6 +1,4 @@
-use Rattle.std.proofs.Common.{◌≡◌, List, Some, None, sym, ap, subst, ◌∙◌}
-use Rattle.std.specs.Prelude.{option_and_then, Vec}
-use Rattle.std.specs.declared.alloc.Global.{Global}
+use Rattle.std.proofs.Common.{List, Some, sym, subst, ◌∙◌}
 use Rattle.kt_parser.specs.declared.first.words.Word.{Word}
 use Rattle.kt_parser.specs.Answers.{Answers}
 use Rattle.kt_parser.specs.Parsing.{program_at}

@@ -1,4 +1,4 @@
-use Rattle.std.proofs.Common.{◌≡◌, ◌∙◌}
+use Rattle.std.proofs.Common.{◌∙◌}
 use Rattle.kt_parser.proofs.Subset.{read_utf8}
 use Rattle.kt_parser.proofs.first.reading.is_text.Goals as goal
 

@@ -1,7 +1,7 @@
-use Rattle.std.proofs.Common.{◌≡◌, ◌+◌, max, [], ◌∷◌, ◌++◌, Some, None, Err, sym, ap, subst, ◌∙◌, arith}
+use Rattle.std.proofs.Common.{◌≡◌, ◌+◌, max, [], ◌∷◌, ◌++◌, Some, Err, sym, ap, subst, ◌∙◌, arith}
 use Rattle.kt_parser.specs.Loops.{loop}
 use Rattle.kt_parser.specs.Answers.{Reads}
-use Rattle.kt_parser.specs.Parsing.{Parsed, words_left, chain_turn, product_operator, sum_operator, factor_at, product_at}
+use Rattle.kt_parser.specs.Parsing.{words_left, chain_turn, product_operator, sum_operator, factor_at, product_at}
 use Rattle.kt_parser.proofs.Expressions.{product_none, product_starts, products, sum_none, sum_starts, sums, factor_is_number, factor_is_other, not_open, no_room, not_inside, not_closed, closed}
 use Rattle.kt_parser.proofs.Reading.{passes, passes_when, operand_fails, level_fails, level_goes}
 use Rattle.kt_parser.proofs.first.sentences.+expression.Goals as goal

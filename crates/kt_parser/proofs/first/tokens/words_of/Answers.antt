@@ -1,10 +1,10 @@
-use Rattle.std.proofs.Common.{◌≡◌, ◌<◌, Some, None, length, sym, ap, ◌∙◌, arith}
+use Rattle.std.proofs.Common.{◌<◌, length, sym, ap, ◌∙◌, arith}
 use Rattle.std.specs.Option.{option_map}
 use Rattle.std.proofs.lemmas.Bool.{eqb-true, eqb-false}
 use Rattle.kt_parser.specs.Loops.{loop}
-use Rattle.kt_parser.specs.Scanning.{Scan, scan_turn, bytes_left, piece_at}
+use Rattle.kt_parser.specs.Scanning.{Scan, scan_turn, bytes_left}
 use Rattle.kt_parser.proofs.Pieces.{rest_shorter}
-use Rattle.kt_parser.proofs.Scanned.{scan_goes, scan_fails, scan_ends, with_piece, state}
+use Rattle.kt_parser.proofs.Scanned.{scan_goes, scan_fails, scan_ends}
 use Rattle.kt_parser.proofs.first.tokens.words_of.Goals as goal
 
 pub loop-rest-preserved : goal.loop-rest-preserved

@@ -1,6 +1,6 @@
 use Rattle.std.proofs.Common.{◌≡◌, [], length}
 use Rattle.kt_parser.specs.Loops.{loop}
-use Rattle.kt_parser.specs.Scanning.{Scan, scan_turn, bytes_left}
+use Rattle.kt_parser.specs.Scanning.{scan_turn, bytes_left}
 use Rattle.kt_parser.proofs.first.tokens.words_of.Given as goal
 
 abbrev pub invariant-loop-rest : goal.invariant-loop-rest
