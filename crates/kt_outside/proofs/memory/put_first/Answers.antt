@@ -1,6 +1,6 @@
-use Rattle.std.proofs.Common.{◌≡◌, ℕ, List, Some, None, ap, sym, subst, ◌∙◌}
+use Rattle.std.proofs.Common.{◌≡◌, Some, None, ap, sym, ◌∙◌}
 use Rattle.std.specs.Prelude.{position}
-use Rattle.kt_outside.specs.Memory.{is_named, file_named, MemFile}
+use Rattle.kt_outside.specs.Memory.{is_named, MemFile}
 use Rattle.kt_outside.proofs.Stored.{set_replaces, set_keeps, push_replaces, push_keeps}
 use Rattle.kt_outside.proofs.memory.put_first.Goals as goal
 
