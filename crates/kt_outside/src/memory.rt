@@ -30,6 +30,8 @@ impl MemFiles {
         bad_puts: Vec<u32>,
     ) -> MemFiles
         ensures files { result.files ≡ files }
+        ensures bad_reads { result.bad_reads ≡ bad_reads }
+        ensures bad_puts { result.bad_puts ≡ bad_puts }
         ensures no_read_faults { ⟦<MemFiles as Files>⟧.read_faults result ≡ [] }
         ensures no_put_faults { ⟦<MemFiles as Files>⟧.put_faults result ≡ [] }
     {
