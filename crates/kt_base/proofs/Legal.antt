@@ -1,5 +1,5 @@
 -- What choices play after a legal history is legal.
-use Rattle.std.proofs.Common.{◌≡◌, ℕ, List, [], ◌∷◌, Option, Some, None, refl, sym, ap, subst, ◌∙◌}
+use Rattle.std.proofs.Common.{◌≡◌, ℕ, List, [], ◌∷◌, Option, Some, None, refl, sym, subst}
 use Rattle.std.specs.Prelude.{option_and_then, option_map, IsSome}
 use Rattle.kt_base.specs.History.{History, Entry, reply}
 use Rattle.kt_base.specs.Meaning.{Program, next_event}

@@ -1,5 +1,5 @@
 -- What one coroutine does, whatever language it is written in.
-use Rattle.std.specs.Prelude.{ℕ, List, length, Option, slice_get}
+use Rattle.std.specs.Prelude.{List, length, Option, slice_get}
 use Rattle.kt_base.specs.declared.lumps.Lump.{Lump}
 use Rattle.kt_base.specs.declared.events.Event.{Event}
 use Rattle.kt_base.specs.declared.events.Answer.{Answer}

@@ -5,7 +5,6 @@ use Rattle.std.specs.Fmt.{decimal}
 use Rattle.kt_base.specs.declared.lumps.Lump.{Lump}
 use Rattle.kt_base.specs.declared.events.Event.{Event}
 use Rattle.kt_base.specs.declared.events.Event.TheVariants as event
-use Rattle.kt_base.specs.declared.events.End.{End}
 use Rattle.kt_base.specs.declared.events.End.TheVariants as end
 use Rattle.kt_base.specs.declared.events.Halt.{Halt}
 use Rattle.kt_base.specs.declared.events.Halt.TheVariants as halt

@@ -1,7 +1,8 @@
 //! Why a source text is refused, and where.
 
+ghost use Rattle.kt_base.specs.Refusals.{kind_text, pos_text, refusal_text};
 ghost use Rattle.kt_base.specs.declared.refusals.FrontErr.TheVariants as front_err;
-ghost use Rattle.std.specs.Prelude.{◌≡◌};
+ghost use Rattle.std.specs.Prelude.{◌≡◌, Some};
 
 use crate::errors::NoMemory;
 use std::alloc::{AllocError, AllocFailed};
@@ -16,6 +17,8 @@ pub struct Pos {
 }
 
 impl fmt::Display for Pos {
+    ghost output = { λ x. Some (pos_text x) };
+
     fn fmt<W: fmt::Write>(&self, f: &mut fmt::Formatter<W>) -> fmt::Result {
         let line = self.line;
         let column = self.column;
@@ -39,6 +42,8 @@ pub enum Kind {
 }
 
 impl fmt::Display for Kind {
+    ghost output = { λ x. Some (kind_text x) };
+
     fn fmt<W: fmt::Write>(&self, f: &mut fmt::Formatter<W>) -> fmt::Result {
         f.write_str(match self {
             Kind::Lex => "Lex",
@@ -58,6 +63,8 @@ pub struct Refusal {
 }
 
 impl fmt::Display for Refusal {
+    ghost output = { λ x. Some (refusal_text x) };
+
     fn fmt<W: fmt::Write>(&self, f: &mut fmt::Formatter<W>) -> fmt::Result {
         let pos = self.pos;
         let kind = self.kind;

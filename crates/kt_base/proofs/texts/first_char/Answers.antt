@@ -1,5 +1,4 @@
-use Rattle.std.proofs.Common.{◌≡◌, ◌-◌, ◌≤◌, List, ◌∷◌, Some, None, length, get_or, take, drop, refl, sym, ap, ◌∙◌, arith}
-use Rattle.std.specs.Char.Utf16.{utf16_chars}
+use Rattle.std.proofs.Common.{◌≡◌, ◌-◌, length, take, drop, refl, sym, ◌∙◌, arith}
 use Rattle.std.proofs.lemmas.List.{take_all, length-drop}
 use Rattle.kt_base.proofs.Utf16.{utf16_chars_first_pair, utf16_chars_first_lone}
 use Rattle.kt_base.proofs.texts.first_char.Goals as goal
