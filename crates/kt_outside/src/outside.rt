@@ -3,7 +3,7 @@
 ghost use Rattle.std.specs.Prelude.{◌≡◌, ◌≢◌, ℕ, ◌<◌, ◌≤◌, List, ◌∷◌, [], ◌++◌, Option, length, take, IfOk, OnOk, OnErr, IsErr};
 ghost use Rattle.std.specs.Io.KnownBytes.{Appends, Keeps};
 ghost use Rattle.kt_outside.specs.Held.{Contents, file_in, Holds, Lacks, Replaces};
-ghost use Rattle.kt_outside.specs.Faults.{Rose, MayAdd, Adds};
+ghost use Rattle.kt_outside.specs.Faults.{Rose, Adds};
 
 use kt_base::NoMemory;
 use std::alloc::{AllocError, AllocFailed};
@@ -52,8 +52,7 @@ pub trait Files {
         ensures unread { OnErr result (into.new.items ≡ into.old.items) }
 
         ensures failed { result ≡ Err FileErr.Failed → Adds name.now (read_faults self.old) (read_faults self.new) }
-        ensures no_other { MayAdd name.now (read_faults self.old) (read_faults self.new) }
-        ensures no_memory { result ≡ Err FileErr.NoMemory → read_faults self.new ≡ read_faults self.old }
+        ensures unfailed { result ≢ Err FileErr.Failed → read_faults self.new ≡ read_faults self.old }
 
         ensures files_stay { held self.new ≡ held self.old }
         ensures put_faults_stay { put_faults self.new ≡ put_faults self.old };
@@ -64,8 +63,7 @@ pub trait Files {
         ensures others_stay { (other : List ℕ) → other ≢ name.now → file_in (held self.new) other ≡ file_in (held self.old) other }
 
         ensures failed { result ≡ Err FileErr.Failed → Adds name.now (put_faults self.old) (put_faults self.new) }
-        ensures no_other { MayAdd name.now (put_faults self.old) (put_faults self.new) }
-        ensures no_memory { result ≡ Err FileErr.NoMemory → put_faults self.new ≡ put_faults self.old }
+        ensures unfailed { result ≢ Err FileErr.Failed → put_faults self.new ≡ put_faults self.old }
         ensures no_memory_stays { result ≡ Err FileErr.NoMemory → held self.new ≡ held self.old }
 
         ensures read_faults_stay { read_faults self.new ≡ read_faults self.old };
@@ -86,5 +84,6 @@ pub trait Sink {
         ensures prefix { IfOk result (λ count. Appends (taken self.old) (taken self.new) (take count bytes.now)) }
         ensures failed { OnErr result (Rose (faults self.old) (faults self.new)) }
         ensures nothing { OnErr result (Keeps (taken self.old) (taken self.new)) }
+        ensures unfailed { OnOk result (faults self.new ≡ faults self.old) }
         ensures not_lowered { faults self.old ≤ faults self.new };
 }

@@ -1,17 +1,18 @@
 //! The outside as the system has it, which tells nothing of what it holds. This is the trusted edge of the program.
 
-ghost use Rattle.std.specs.Prelude.{◌≡◌, ◌+◌, ◌≤◌, ℕ, List, [], ◌++◌, None, map, take, length, vec_len, OnErr, OnOk};
+ghost use Rattle.std.specs.Io.KnownBytes.{Appends, Keeps};
+ghost use Rattle.std.specs.Prelude.{◌≡◌, ◌+◌, ◌<◌, ◌≤◌, ℕ, List, [], ◌++◌, None, map, take, length, IfSome};
 ghost use Rattle.std.specs.String.{string_bytes};
 
 use crate::outside::{Failed, FileErr, Files, Sink};
 use std::alloc::Global;
 use std::io::{Read, Write};
-use std::{fs, rt};
+use std::{fs, io, rt};
 
 /// How many bytes one turn of a read asks for at most.
 const PIECE: usize = 4096;
 
-/// How many turns a read takes at most, each of which gives at least one byte.
+/// How many turns a call takes at most: each gives a byte, or was interrupted.
 const MOST_TURNS: u64 = 1 << 32;
 
 /// The files of the system.
@@ -88,10 +89,29 @@ fn read_to_end<R: rt::Files>(system: &R, name: &str, into: &mut Vec<u8>) -> Resu
         match file.read(&mut piece) {
             Ok(0) => return Ok(()),
             Ok(count) => into.extend_from_slice(&piece[..count])?,
+            Err(error) if error.kind() == io::ErrorKind::Interrupted => {}
             Err(_) => return Err(FileErr::Failed),
         }
     }
     Err(FileErr::Failed)
+}
+
+/// Takes bytes from the front, at least one where there is one, and tells how many; `None` where the writer takes none.
+fn write_once<W: Write>(stream: &mut W, bytes: &[u8]) -> Option<usize>
+    ensures within { IfSome result (λ count. count ≤ length bytes.now) }
+    ensures some { IfSome result (λ count. 0 < length bytes.now → 0 < count) }
+    ensures prefix { IfSome result (λ count. Appends (W.contents stream.old) (W.contents stream.new) (take count bytes.now)) }
+    ensures nothing { result ≡ None → Keeps (W.contents stream.old) (W.contents stream.new) }
+{
+    for _ in 0..MOST_TURNS {
+        match stream.write(bytes) {
+            Ok(0) if !bytes.is_empty() => return None,
+            Ok(count) => return Some(count),
+            Err(error) if error.kind() == io::ErrorKind::Interrupted => {}
+            Err(_) => return None,
+        }
+    }
+    None
 }
 
 /// A stream of the system.
@@ -111,15 +131,15 @@ impl<W: Write + Drop> RealSink<W> {
 }
 
 impl<W: Write + Drop> Sink for RealSink<W> {
-    ghost taken = { λ _. None };
+    ghost taken = { λ s. W.contents s.stream };
 
     ghost faults = { λ s. s.faults };
 
     /// Writes once. A write that takes nothing of a piece that isn't empty counts as a fault.
     fn write(&mut self, bytes: &[u8]) -> Result<usize, Failed> {
-        match self.stream.write(bytes) {
-            Ok(count) if 0 < count || bytes.is_empty() => Ok(count),
-            _ => {
+        match write_once(&mut self.stream, bytes) {
+            Some(count) => Ok(count),
+            None => {
                 self.faults = self.faults.saturating_add(1);
                 Err(Failed)
             }

@@ -12,6 +12,7 @@ pub fn write_all<S: Sink>(sink: &mut S, bytes: &[u8]) -> Result<(), Failed>
     ensures all { OnOk result (Appends (S.taken sink.old) (S.taken sink.new) bytes.now) }
     ensures prefix { OnErr result (AppendsPrefix (S.taken sink.old) (S.taken sink.new) bytes.now) }
     ensures failed { OnErr result (Rose (S.faults sink.old) (S.faults sink.new)) }
+    ensures unfailed { OnOk result (S.faults sink.new ≡ S.faults sink.old) }
     ensures not_lowered { S.faults sink.old ≤ S.faults sink.new }
 {
     let mut rest = bytes;

@@ -12,3 +12,4 @@ pub mod Items
 pub mod Bodies
 pub mod Subset
 pub mod Printing
+pub mod Short

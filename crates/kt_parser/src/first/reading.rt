@@ -1,6 +1,6 @@
 //! The code of a text of the first subset.
 
-ghost use Rattle.std.specs.Prelude.{◌≡◌, IfOk, MatchResult};
+ghost use Rattle.std.specs.Prelude.{◌≡◌, ◌≤◌, length, IfOk, MatchResult};
 ghost use Rattle.std.specs.Str.{is_utf8};
 ghost use Rattle.kt_parser.specs.Answers.{Answers};
 ghost use Rattle.kt_parser.specs.Parsing.{first_of, may_be_first};
@@ -53,6 +53,7 @@ const MOST_BYTES: usize = 512;
 pub fn parse_first(alloc: Global, text: &[u8]) -> Result<Vec<Plain>, FirstErr>
     ensures read { IfOk result (λ code. (p : Program) × IsFirst text.now p × (code.items ≡ code_of p)) }
     ensures prints { IfOk result (λ code. (p : Program) → IsFirst text.now p → Prints code.items (values_of p)) }
+    ensures short { IfOk result (λ code. length code.items ≤ length text.now) }
     ensures only { (p : Program) → IsFirst text.now p → MatchResult result (λ code. code.items ≡ code_of p) (λ e. e ≡ FirstErr.NoMemory) }
 {
     code_of(alloc, text)

@@ -1,4 +1,4 @@
-use Rattle.std.proofs.Common.{arith}
+use Rattle.std.proofs.Common.{◌∙◌}
 use Rattle.kt_outside.proofs.Appending.{takes_more}
 use Rattle.kt_outside.proofs.writing.write_all.Goals as goal
 
@@ -8,5 +8,5 @@ loop-rest-preserved g c =
     let w = c.in_ok-count.ensures in
     record {
       place = takes_more _ _ _ _ _ _ _ w.within i.place.1 i.place.2 w.prefix;
-      not_lowered = omega (arith, i.not_lowered, w.not_lowered);
+      unfailed = w.unfailed ∙ i.unfailed;
     }

@@ -1,5 +1,6 @@
 use Rattle.kt_parser.proofs.Subset.{code_is_read, only_code}
 use Rattle.kt_parser.proofs.Printing.{prints_values}
+use Rattle.kt_parser.proofs.Short.{few_steps}
 use Rattle.kt_parser.proofs.first.reading.parse_first.Goals as goal
 
 pub returns-clause-read : goal.returns-clause-read
@@ -10,3 +11,6 @@ returns-clause-prints c = prints_values c.args.text.now c.code_of.result (only_c
 
 pub returns-clause-only : goal.returns-clause-only
 returns-clause-only c = only_code c.args.text.now c.code_of.result c.code_of.ensures
+
+pub returns-clause-short : goal.returns-clause-short
+returns-clause-short c = few_steps c.args.text.now c.code_of.result (code_is_read c.args.text.now c.code_of.result c.code_of.ensures)
