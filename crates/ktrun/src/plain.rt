@@ -1,6 +1,6 @@
 //! The commands that one thread serves.
 
-ghost use Rattle.std.specs.Prelude.{◌≡◌, ◌≤◌, ◌⊎◌, List, ℕ, [], map, Some, None};
+ghost use Rattle.std.specs.Prelude.{◌≡◌, ◌≢◌, ◌≤◌, ◌⊎◌, List, ℕ, [], map, Some, None};
 ghost use Rattle.std.specs.String.{string_bytes};
 ghost use Rattle.std.specs.Io.KnownBytes.{Appends, Keeps};
 ghost use Rattle.kt_outside.specs.Faults.{Rose, MayAdd, Adds};
@@ -42,7 +42,9 @@ pub fn plain_main<F: Files, O: Sink, E: Sink>(
 
     ensures write_fault { result.status ≡ 8 → (name : List ℕ) → file_to_run (map string_bytes words.now) ≡ Some name → WrotePrefix (F.held files.old) name result.choices.items (O.taken out.old) (O.taken out.new) }
     ensures write_rose { result.status ≡ 8 → Rose (O.faults out.old) (O.faults out.new) }
+    ensures no_write_fault { result.status ≢ 8 → O.faults out.new ≡ O.faults out.old }
     ensures read_fault { result.status ≡ 7 → (name : List ℕ) → file_to_run (map string_bytes words.now) ≡ Some name → Adds name (F.read_faults files.old) (F.read_faults files.new) }
+    ensures no_read_fault { result.status ≢ 7 → F.read_faults files.new ≡ F.read_faults files.old }
     ensures not_built { result.status ≡ 11 → (name : List ℕ) → file_to_run (map string_bytes words.now) ≡ Some name → IsForeign (F.held files.old) name }
     ensures foreign { (name source : List ℕ) → file_to_run (map string_bytes words.now) ≡ Some name → Holds (F.held files.old) name source → ¬ (IsOfFirst source)
         → F.read_faults files.new ≡ F.read_faults files.old → (result.status ≡ 11) ⊎ (result.status ≡ 6) }
@@ -79,7 +81,9 @@ fn run_named<F: Files, O: Sink>(alloc: Global, name: &str, files: &mut F, out: &
     ensures done { result.status ≡ 0 → Wrote (F.held files.old) name.now result.choices.items (O.taken out.old) (O.taken out.new) }
     ensures write_fault { result.status ≡ 8 → WrotePrefix (F.held files.old) name.now result.choices.items (O.taken out.old) (O.taken out.new) }
     ensures write_rose { result.status ≡ 8 → Rose (O.faults out.old) (O.faults out.new) }
+    ensures no_write_fault { result.status ≢ 8 → O.faults out.new ≡ O.faults out.old }
     ensures read_fault { result.status ≡ 7 → Adds name.now (F.read_faults files.old) (F.read_faults files.new) }
+    ensures no_read_fault { result.status ≢ 7 → F.read_faults files.new ≡ F.read_faults files.old }
     ensures not_built { result.status ≡ 11 → IsForeign (F.held files.old) name.now }
     ensures nothing_written { IsEarly result.status → Keeps (O.taken out.old) (O.taken out.new) }
     ensures no_choices { IsEarly result.status → result.choices.items ≡ [] }
@@ -100,6 +104,7 @@ fn run_named<F: Files, O: Sink>(alloc: Global, name: &str, files: &mut F, out: &
 fn deliver<O: Sink>(out: &mut O, run: Finished) -> Outcome
     ensures done { result.status ≡ 0 → Appends (O.taken out.old) (O.taken out.new) run.text.items }
     ensures write_fault { result.status ≡ 8 → AppendsPrefix (O.taken out.old) (O.taken out.new) run.text.items × Rose (O.faults out.old) (O.faults out.new) }
+    ensures no_fault { result.status ≢ 8 → O.faults out.new ≡ O.faults out.old }
     ensures only { (result.status ≡ 0) ⊎ (result.status ≡ 8) }
     ensures choices { result.choices.items ≡ run.choices.items }
     ensures not_lowered { O.faults out.old ≤ O.faults out.new }

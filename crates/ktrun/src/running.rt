@@ -69,6 +69,7 @@ impl From<NoMemory> for Stop {
 pub fn run_file<F: Files>(alloc: Global, name: &str, files: &mut F) -> Result<Finished, Stop>
     ensures ran { IfOk result (λ run. Ran (F.held files.old) name.now run.choices.items run.text.items) }
     ensures read_fault { result ≡ Err Stop.ReadFault → Adds name.now (F.read_faults files.old) (F.read_faults files.new) }
+    ensures no_read_fault { result ≢ Err Stop.ReadFault → F.read_faults files.new ≡ F.read_faults files.old }
     ensures not_built { result ≡ Err Stop.NotBuilt → IsForeign (F.held files.old) name.now }
     ensures reads_no_other { MayAdd name.now (F.read_faults files.old) (F.read_faults files.new) }
     ensures files_stay { F.held files.new ≡ F.held files.old }
