@@ -62,7 +62,7 @@ fn foreign() -> [&'static str; 12] {
 }
 
 /// Words, apart by spaces, that ask for nothing.
-fn no_commands() -> [&'static str; 10] {
+fn no_commands() -> [&'static str; 12] {
     [
         "run",
         "walk p.kt",
@@ -71,6 +71,8 @@ fn no_commands() -> [&'static str; 10] {
         "run p.kt q.kt",
         "run p.kt --workers",
         "run p.kt --workers 2",
+        "run p.kt --workers 65",
+        "run p.kt --turns 1 --turns 2",
         "run p.kt --workers=1",
         "run --workers 1 p.kt",
         "p.kt",
@@ -221,12 +223,12 @@ fn faults_have_their_status(rt: HostRuntime) -> Result<(), Fail> {
         alloc,
         "run p.kt",
         Setting {
-            bad_write: 3,
-            most: 2,
+            bad_write: 2,
+            most: 3,
             ..plain(source)
         },
     )?;
-    wrote(&rt, &front, 8, "1234", "ktrun: cannot write\n");
+    wrote(&rt, &front, 8, "123", "ktrun: cannot write\n");
     assert_eq!(rt; front.outcome.choices.as_slice(), [0].as_slice());
     let silent = done(
         alloc,
