@@ -1,13 +1,15 @@
 -- A token passes no two tests that tell kinds of tokens apart.
 use Rattle.std.proofs.Common.{◌≡◌, true, false, refl, ap, ◌∙◌, rules}
 use denote.Enum.Bare.{same_true}
+use Rattle.kt_tree.specs.contracts.tokens.Keyword as keyword_kind
 use Rattle.kt_tree.specs.contracts.tokens.Sign as sign_kind
 use Rattle.kt_tree.specs.declared.tokens.Token.{Token}
 use Rattle.kt_tree.specs.declared.tokens.TokenKind.{TokenKind}
 use Rattle.kt_tree.specs.declared.tokens.TokenKind.TheVariants as kind
+use Rattle.kt_tree.specs.declared.tokens.Keyword.{Keyword}
 use Rattle.kt_tree.specs.declared.tokens.Sign.{Sign}
 use Rattle.kt_tree.specs.declared.tokens.SoftKeyword.{SoftKeyword}
-use Rattle.kt_tree.specs.Tokens.{kind_is_soft_keyword, is_soft_keyword, same_sign, kind_is_sign, kind_is_identifier, is_sign, is_identifier}
+use Rattle.kt_tree.specs.Tokens.{kind_is_soft_keyword, is_soft_keyword, same_sign, same_keyword, kind_is_sign, kind_is_identifier, is_sign, is_identifier}
 
 pub same_sign_is : (a b : Sign) → same_sign a b ≡ true → a ≡ b
 unfolding same_sign
@@ -41,3 +43,7 @@ kind_soft_no_sign w s _ h = refl
 -- a soft keyword and a sign
 pub soft_no_sign : (w : SoftKeyword) (s : Sign) (t : Token) → is_soft_keyword w t ≡ true → is_sign s t ≡ false
 soft_no_sign w s t h = kind_soft_no_sign w s t.kind h
+
+pub same_keyword_is : (a b : Keyword) → same_keyword a b ≡ true → a ≡ b
+unfolding same_keyword
+same_keyword_is a b h = same_true keyword_kind.the_type (search rules) a b h

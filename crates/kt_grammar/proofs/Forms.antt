@@ -80,11 +80,11 @@ module _ {T : Type 0} (test : T → Bool) (G N : Unit {0} → List T → Type 0)
 
 -- ---- what is read where there is room
 
-from_true : {T A : Type 0} (L M : A → List T → List T → Type 0) (a : A) (u rest : List T) → If true L M a u rest → L a u rest
+pub from_true : {T A : Type 0} (L M : A → List T → List T → Type 0) (a : A) (u rest : List T) → If true L M a u rest → L a u rest
 from_true L M a u rest (inl x) = x.1
 from_true L M a u rest (inr x) = absurd (let e : true ≡ false = x.0 in cc)
 
-from_false : {T A : Type 0} (L M : A → List T → List T → Type 0) (a : A) (u rest : List T) → If false L M a u rest → M a u rest
+pub from_false : {T A : Type 0} (L M : A → List T → List T → Type 0) (a : A) (u rest : List T) → If false L M a u rest → M a u rest
 from_false L M a u rest (inl x) = absurd (let e : false ≡ true = x.0 in cc)
 from_false L M a u rest (inr x) = x.1
 

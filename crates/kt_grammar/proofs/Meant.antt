@@ -28,7 +28,7 @@ module _ {A : Type 0} (of : Meaning A) (witness : Token) (value : A) (stands : o
       let i = by_ok (of t) t ts far found c e in
       record { read = t ∷ []; is = ap (λ (r : Cursor Token). t ∷ r.rest) i.2; phrase = record { means = ap of (sym i.1) ∙ i.0; one = ap (λ (z : Token). z ∷ []) i.1 }; far = inl (ap (λ (r : Cursor Token). r.far) (sym i.2)); shorter = omega (arith, ap (λ (r : Cursor Token). length r.far) i.2) }
 
-  meant_is_refused : (ts far k : List Token) → meant of (cursor ts far) ≡ Err k → further ts far ≡ k
+  pub meant_is_refused : (ts far k : List Token) → meant of (cursor ts far) ≡ Err k → further ts far ≡ k
   unfolding meant
   meant_is_refused [] far k e = cc
   meant_is_refused (t ∷ ts) far k e = (by_err (of t) t ts far k e).1

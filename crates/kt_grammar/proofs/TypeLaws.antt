@@ -13,7 +13,7 @@ use Rattle.kt_grammar.proofs.TypesRead.{TypeEnds, type_phrase, types_correct}
 ends_there : (t : TypeTree) → TypeEnds t []
 ends_there t = record { no_question = refl; no_less = refl; no_arrow = refl }
 
-some_type : (n : ℕ) → Phrase (IsType (suc n)) TypeEnds
+pub some_type : (n : ℕ) → Phrase (IsType (suc n)) TypeEnds
 unfolding IsType
 some_type n = type_phrase (IsType n) (some_levels n)
 

@@ -22,10 +22,10 @@ use Rattle.kt_grammar.proofs.Forms.{gives_correct, gives_phrase, ahead_correct, 
 use Rattle.kt_grammar.proofs.Optional.{not_reads, token_begins, seq_begins, where_token_correct}
 use Rattle.kt_grammar.proofs.Apart.{signs_apart, identifier_no_sign, soft_no_sign}
 
-abbrev a_sign : Sign → Token
+abbrev pub a_sign : Sign → Token
 a_sign s = record { kind = kind.Sign s; pos = record { line = 1; column = 1 } }
 
-abbrev a_name : Token
+abbrev pub a_name : Token
 a_name = record { kind = kind.Identifier (120 ∷ []); pos = record { line = 1; column = 1 } }
 
 is-less : is_sign sign.Less (a_sign sign.Less) ≡ true
@@ -71,7 +71,7 @@ first_apart s other e [] h = refl
 first_apart s other e (t ∷ ts) h = signs_apart s other e t h
 
 -- `>` ends a type
-greater_ends : (t : TypeTree) (tail : List Token) → first (is_sign sign.Greater) tail ≡ true → TypeEnds t tail
+pub greater_ends : (t : TypeTree) (tail : List Token) → first (is_sign sign.Greater) tail ≡ true → TypeEnds t tail
 greater_ends t tail h = record { no_question = first_apart sign.Greater sign.Question greater-question tail h; no_less = first_apart sign.Greater sign.Less greater-less tail h; no_arrow = first_apart sign.Greater sign.Arrow greater-arrow tail h }
 
 is-arrow : is_sign sign.Arrow (a_sign sign.Arrow) ≡ true
@@ -103,7 +103,7 @@ unfolding same_sign
 close-arrow = refl
 
 -- `)` ends a type
-close_ends : (t : TypeTree) (tail : List Token) → first (is_sign sign.CloseParenthesis) tail ≡ true → TypeEnds t tail
+pub close_ends : (t : TypeTree) (tail : List Token) → first (is_sign sign.CloseParenthesis) tail ≡ true → TypeEnds t tail
 close_ends t tail h = record { no_question = first_apart sign.CloseParenthesis sign.Question close-question tail h; no_less = first_apart sign.CloseParenthesis sign.Less close-less tail h; no_arrow = first_apart sign.CloseParenthesis sign.Arrow close-arrow tail h }
 
 open-close : same_sign sign.OpenParenthesis sign.CloseParenthesis ≡ false
@@ -125,7 +125,7 @@ identifier_first : (s : Sign) (Part : TypeTree → List Token → List Token →
 identifier_first s Part t u rest l = seq_begins (is_sign s) (IsToken is_identifier) (λ x. FirstOf (IsTypeArguments Part) (λ ts. IsNothing (named (name_of x) (types_of ts))) (IsNothing (named (name_of x) (types_of [])))) false (identifier_begins s) t u rest l
 
 module _ (Part : TypeTree → List Token → List Token → Type 0) where
-  no_arguments : (tail : List Token) → first (is_sign sign.Less) tail ≡ false → NotReads (IsTypeArguments Part) tail
+  pub no_arguments : (tail : List Token) → first (is_sign sign.Less) tail ≡ false → NotReads (IsTypeArguments Part) tail
   no_arguments tail h = not_reads (is_sign sign.Less) (IsTypeArguments Part) (λ ts u rest s. seq_begins (is_sign sign.Less) (IsToken (is_sign sign.Less)) (λ _. CommaList (is_sign sign.Comma) (is_sign sign.Greater) Part) true (λ a u rest l. token_begins (is_sign sign.Less) a u rest l) ts u rest s) tail h
 
   -- '?'?
@@ -277,26 +277,30 @@ module _ (Part : TypeTree → List Token → List Token → Type 0) where
   no_close_of deep t u rest (inl x) = elim x.1 [ inl s ↦ suspend_no_close t u rest s | inr m ↦ plain_no_close t u rest m.0 ]
   no_close_of deep t u rest (inr x) = plain_no_close t u rest x.1
 
-  a_type : TypeTree
+  pub a_type : TypeTree
   a_type = named (120 ∷ []) (types_of [])
 
-  name_is_type : (tail : List Token) → TypeEnds a_type tail → Seq (IsNamedType Part) (IsMaybeNullable Part) a_type (a_name ∷ []) tail
+  name_is_type : (tail : List Token) → first (is_sign sign.Less) tail ≡ false → first (is_sign sign.Question) tail ≡ false → Seq (IsNamedType Part) (IsMaybeNullable Part) a_type (a_name ∷ []) tail
   unfolding a_type
-  name_is_type tail h = record {
+  name_is_type tail less question = record {
     value = named (120 ∷ []) (types_of []);
     front = a_name ∷ [];
     back = [];
     is = refl;
-    phrase = record { value = a_name; front = a_name ∷ []; back = []; is = refl; phrase = record { passes = refl; one = refl }; phrase' = inr (record { value = refl; none = refl }, no_arguments Part tail h.no_less) };
-    phrase' = maybe_nullable_phrase Part (named (120 ∷ []) (types_of [])) tail h;
+    phrase = record { value = a_name; front = a_name ∷ []; back = []; is = refl; phrase = record { passes = refl; one = refl }; phrase' = inr (record { value = refl; none = refl }, no_arguments Part tail less) };
+    phrase' = inr (record { value = refl; none = refl }, not_reads (is_sign sign.Question) (IsToken (is_sign sign.Question)) (λ a u rest l. token_begins (is_sign sign.Question) a u rest l) tail question);
   }
 
   no_suspend : (tail : List Token) → NotReads (IsSuspend Part) (a_name ∷ tail)
   no_suspend tail = not_reads (is_soft_keyword soft.Suspend) (IsSuspend Part) (λ a u rest s. seq_begins (is_soft_keyword soft.Suspend) (IsToken (is_soft_keyword soft.Suspend)) (λ _. IsAhead (is_sign sign.OpenParenthesis)) true (token_begins (is_soft_keyword soft.Suspend)) a u rest s) (a_name ∷ tail) refl
 
+  -- a name is a type also where `->` follows
+  pub name_type : (deep : Bool) (tail : List Token) → first (is_sign sign.Less) tail ≡ false → first (is_sign sign.Question) tail ≡ false → IsTypeOver Part deep a_type (a_name ∷ []) tail
+  name_type true tail less question = inl (refl, inr (inr (name_is_type tail less question), no_suspend tail))
+  name_type false tail less question = inr (refl, inr (name_is_type tail less question))
+
   pub type_phrase : (deep : Bool) → Phrase (IsTypeOver Part deep) TypeEnds
-  type_phrase true = record { whole = a_type; tokens = a_name ∷ []; phrase = λ tail h. inl (refl, inr (inr (name_is_type tail h), no_suspend tail)) }
-  type_phrase false = record { whole = a_type; tokens = a_name ∷ []; phrase = λ tail h. inr (refl, inr (name_is_type tail h)) }
+  type_phrase deep = record { whole = a_type; tokens = a_name ∷ []; phrase = λ tail h. name_type deep tail h.no_less h.no_question }
 
 -- ---- types of one level
 

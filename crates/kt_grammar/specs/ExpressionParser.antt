@@ -1,5 +1,5 @@
 -- Parsers of expressions.
-use Rattle.std.specs.Prelude.{ℕ, ◌+◌, Bool, true, false, not, nat_lt, nat_le, ◌&&◌, List, [], ◌∷◌, ◌++◌, Option, None, Some, is_some, ◌⊎◌}
+use Rattle.std.specs.Prelude.{ℕ, ◌+◌, Bool, true, false, not, nat_lt, nat_le, List, [], ◌∷◌, ◌++◌, Option, None, Some, is_some, ◌⊎◌}
 use Rattle.std.proofs.Common.{inl, inr}
 use Rattle.kt_base.specs.declared.refusals.Pos.{Pos}
 use Rattle.kt_tree.specs.declared.tokens.Token.{Token}
@@ -42,11 +42,10 @@ pub record Parsers : Type 0 where
 
 -- a part of a string, where so many levels are left for what it holds
 abbrev pub part_of : ℕ → Parser Token ExpressionTree → Parser Token PartTree
-part_of left expression = attempt (meant text_of) (λ t. pure (e.text t.1))
-    (on_if (some_levels left) is_name_part (λ t. pure (e.name_part (name_of t)))
+part_of left expression = on_if (some_levels left) is_name_part (λ t. pure (e.name_part (name_of t)))
     (on_if (some_levels left) is_this_part (λ _. pure e.this_part)
     (on_if (some_levels left) is_open_template (λ _. lines >> (expression >>= (λ a. lines >> (expect sign.CloseBrace >> pure (e.hole a)))))
-    refuse)))
+    (meant text_of >>= (λ t. pure (e.text t.1)))))
 
 abbrev pub parameter_of : ℕ → Parser Token ParameterTree
 parameter_of room = token is_identifier >>= (λ x. maybe (is_sign sign.Colon) (type_parser room) >>= (λ t. pure (record { name = name_of x; annotation = t })))
@@ -58,118 +57,118 @@ abbrev pub block_of : Parser Token StatementTree → Parser Token BlockTree
 block_of statement = expect sign.OpenBrace >> block_rest statement
 
 module _ (room : ℕ) (below : Parsers) (at : Context) where
-  abbrev deep : Bool
+  abbrev pub deep : Bool
   deep = some_levels below.levels
 
-  abbrev has_more : ExpressionTree → Bool
+  abbrev pub has_more : ExpressionTree → Bool
   has_more a = nat_lt (levels a) room
 
-  abbrev has_call : ExpressionTree → Bool
-  has_call f = nat_le (levels (e.call (place f) f [] e.expressions_end)) room
+  abbrev pub called : ExpressionTree → List TypeTree → List ExpressionTree → ExpressionTree
+  called f ts es = e.call (place f) f ts (expressions_of es)
 
-  abbrev part_if : Bool → Parser Token PartTree
+  abbrev pub has_call : ExpressionTree → Bool
+  has_call f = nat_le (levels (called f [] [])) room
+
+  abbrev pub part_if : Bool → Parser Token PartTree
   part_if true = below.part at
   part_if false = refuse
 
-  abbrev next_part : List PartTree → Parser Token PartTree
+  abbrev pub next_part : List PartTree → Parser Token PartTree
   next_part [] = part_of below.levels (below.disjunction at)
   next_part (p ∷ ps) = part_if (nat_le (parts_levels (parts_of (p ∷ ps)) + 2) room)
 
-  abbrev part_turn : Pos → List PartTree → Parser Token (List PartTree ⊎ ExpressionTree)
+  abbrev pub part_turn : Pos → List PartTree → Parser Token (List PartTree ⊎ ExpressionTree)
   part_turn start ps = on is_close_quote (λ _. pure (inr (e.template start (parts_of ps)))) (next_part ps >>= (λ p. pure (inl (ps ++ p ∷ []))))
 
-  abbrev lambda_head : Parser Token (List ParameterTree)
+  abbrev pub lambda_head : Parser Token (List ParameterTree)
   lambda_head = several_items (pure tt) below.parameter >>= (λ ps. lines >> (expect sign.Arrow >> pure ps))
 
-  abbrev lambda_rest : Token → Parser Token ExpressionTree
+  abbrev pub lambda_rest : Token → Parser Token ExpressionTree
   lambda_rest t = lines >> (attempt_if deep lambda_head (λ ps. pure ps) (pure []) >>= (λ ps. block_rest (below.statement in_lambda) >>= (λ b. pure (e.lambda t.pos (e.lambda_of ps b)))))
 
   abbrev pub lambda_parser : Parser Token ExpressionTree
   lambda_parser = expect sign.OpenBrace >>= lambda_rest
 
-  abbrev else_word : Parser Token (Unit {0})
+  abbrev pub else_word : Parser Token (Unit {0})
   else_word = on (is_sign sign.Semicolon) (λ _. lines >> token (is_keyword word.Else)) (lines >> token (is_keyword word.Else)) >> (lines >> ahead is_no_arrow)
 
-  abbrev if_rest : Token → Parser Token ExpressionTree
+  abbrev pub if_rest : Token → Parser Token ExpressionTree
   if_rest t = expect sign.OpenParenthesis >> (below.disjunction at >>= (λ a. expect sign.CloseParenthesis >> (lines >> (below.body at >>= (λ b.
       attempt else_word (λ _. below.body at >>= (λ c. pure (e.if_else t.pos a b (e.some_body c)))) (pure (e.if_else t.pos a b e.no_body)))))))
 
-  abbrev subject : Parser Token (Option ExpressionTree)
+  abbrev pub subject : Parser Token (Option ExpressionTree)
   subject = on_if deep (is_sign sign.OpenParenthesis) (λ _. below.disjunction at >>= (λ a. expect sign.CloseParenthesis >> pure (Some a))) (pure None)
 
-  abbrev when_rest : Token → Parser Token ExpressionTree
+  abbrev pub when_rest : Token → Parser Token ExpressionTree
   when_rest t = subject >>= (λ a. lines >> (expect sign.OpenBrace >> (separated (is_sign sign.CloseBrace) (below.entry at (is_some a)) >>= (λ es. pure (e.when t.pos (maybe_expression a) (entries_of es.0))))))
 
-  abbrev catch_head : Parser Token Token
+  abbrev pub catch_head : Parser Token Token
   catch_head = lines >> (token (is_soft_keyword soft.Catch) >> (expect sign.OpenParenthesis >> (token is_identifier >>= (λ x. expect sign.Colon >> pure x))))
 
-  abbrev finally_head : Parser Token Token
+  abbrev pub finally_head : Parser Token Token
   finally_head = lines >> (token (is_soft_keyword soft.Finally) >> (lines >> expect sign.OpenBrace))
 
-  abbrev catch_turn : List CatchTree → Parser Token (List CatchTree ⊎ List CatchTree)
+  abbrev pub catch_turn : List CatchTree → Parser Token (List CatchTree ⊎ List CatchTree)
   catch_turn cs = attempt_if deep catch_head (λ x. below.catch at (name_of x) >>= (λ c. pure (inl (cs ++ c ∷ [])))) (pure (inr cs))
 
-  abbrev no_finally : Pos → BlockTree → List CatchTree → Parser Token ExpressionTree
+  abbrev pub no_finally : Pos → BlockTree → List CatchTree → Parser Token ExpressionTree
   no_finally start b [] = refuse
   no_finally start b (c ∷ cs) = pure (e.try_catch start b (catches_of (c ∷ cs)) e.no_block)
 
-  abbrev try_rest : Token → Parser Token ExpressionTree
+  abbrev pub try_rest : Token → Parser Token ExpressionTree
   try_rest t = lines >> (block_of (below.statement at) >>= (λ b. repeat catch_turn [] >>= (λ cs.
       attempt finally_head (λ _. block_rest (below.statement at) >>= (λ f. pure (e.try_catch t.pos b (catches_of cs) (e.some_block f)))) (no_finally t.pos b cs))))
 
-  abbrev primary : Parser Token ExpressionTree
-  primary = attempt (meant literal_of) (λ l. pure (e.literal l.0.pos l.1))
-      (on is_open_quote (λ t. repeat (part_turn t.pos) [])
-      (on is_identifier (λ t. pure (e.name t.pos (name_of t)))
-      (on (is_keyword word.This) (λ t. pure (e.this t.pos))
-      (on_if deep (is_sign sign.OpenParenthesis) (λ t. below.disjunction at >>= (λ a. expect sign.CloseParenthesis >> pure (e.parenthesized t.pos a)))
-      (on (is_sign sign.OpenBrace) lambda_rest
+  abbrev pub primary : Parser Token ExpressionTree
+  primary = on_if deep (is_sign sign.OpenParenthesis) (λ t. below.disjunction at >>= (λ a. expect sign.CloseParenthesis >> pure (e.parenthesized t.pos a)))
       (on_if deep (is_keyword word.If) if_rest
-      (on (is_keyword word.When) when_rest
-      (on (is_keyword word.Try) try_rest
       (on_if deep (is_keyword word.Throw) (λ t. below.disjunction at >>= (λ a. pure (e.throw t.pos a)))
       (on_if (not at.in_lambda) (is_keyword word.Return) (λ t. attempt_if deep (below.disjunction at) (λ a. pure (e.return t.pos (e.some_expression a))) (pure (e.return t.pos e.no_expression)))
       (on_if at.in_loop (is_keyword word.Break) (λ t. pure (e.break t.pos))
       (on_if at.in_loop (is_keyword word.Continue) (λ t. pure (e.continue t.pos))
-      refuse))))))))))))
+      (on (is_sign sign.OpenBrace) lambda_rest
+      (on (is_keyword word.When) when_rest
+      (on (is_keyword word.Try) try_rest
+      (on is_open_quote (λ t. repeat (part_turn t.pos) [])
+      (on (is_keyword word.This) (λ t. pure (e.this t.pos))
+      (on is_identifier (λ t. pure (e.name t.pos (name_of t)))
+      (meant literal_of >>= (λ l. pure (e.literal l.0.pos l.1))))))))))))))
 
   -- behind '('
-  abbrev arguments_rest : Parser Token (List ExpressionTree)
+  abbrev pub arguments_rest : Parser Token (List ExpressionTree)
   arguments_rest = maybe_commas (is_sign sign.CloseParenthesis) (below.disjunction at) >>= (λ es. attempt_if deep (below.lambda at) (λ l. pure (es ++ l ∷ [])) (pure es))
 
-  abbrev call_rest : ExpressionTree → List TypeTree → Parser Token ExpressionTree
-  call_rest f ts = on (is_sign sign.OpenParenthesis) (λ _. arguments_rest) (below.lambda at >>= (λ l. pure (l ∷ []))) >>= (λ es. pure (e.call (place f) f ts (expressions_of es)))
+  -- a call behind its type arguments
+  abbrev pub call_parser : Parser Token (List ExpressionTree)
+  call_parser = on (is_sign sign.OpenParenthesis) (λ _. arguments_rest) (below.lambda at >>= (λ l. pure (l ∷ [])))
 
-  abbrev member_if : Bool → ExpressionTree → Parser Token ExpressionTree
-  member_if true a = lines >> (meant member_of >>= (λ safe. lines >> (token is_identifier >>= (λ x. pure (e.member (place a) a safe.1 (name_of x))))))
-  member_if false a = refuse
+  abbrev pub member : ExpressionTree → Parser Token ExpressionTree
+  member a = lines >> (meant member_of >>= (λ safe. lines >> (token is_identifier >>= (λ x. pure (e.member (place a) a safe.1 (name_of x))))))
 
-  abbrev suffix : ExpressionTree → Parser Token ExpressionTree
-  suffix a = on_if (has_call a) (is_sign sign.OpenParenthesis) (λ _. arguments_rest >>= (λ es. pure (e.call (place a) a [] (expressions_of es))))
-      (attempt_if (has_call a && deep) (below.lambda at) (λ l. pure (e.call (place a) a [] (expressions_of (l ∷ []))))
-      (on_if (has_more a) (is_sign sign.NotNull) (λ _. pure (e.not_null (place a) a))
-      (on_if (has_more a && deep) (is_sign sign.OpenBracket) (λ _. below.disjunction at >>= (λ i. expect sign.CloseBracket >> pure (e.index (place a) a i)))
-      (member_if (has_more a) a))))
+  abbrev pub suffix : ExpressionTree → Parser Token ExpressionTree
+  suffix a = on (is_sign sign.NotNull) (λ _. pure (e.not_null (place a) a)) (on_if deep (is_sign sign.OpenBracket) (λ _. below.disjunction at >>= (λ i. expect sign.CloseBracket >> pure (e.index (place a) a i))) (member a))
 
-  abbrev type_arguments_of_call : Parser Token (List TypeTree)
+  abbrev pub type_arguments_of_call : Parser Token (List TypeTree)
   type_arguments_of_call = type_arguments (type_parser room) >>= (λ ts. ahead (either (is_sign sign.OpenParenthesis) (is_sign sign.OpenBrace)) >> pure ts)
 
-  abbrev suffix_turn : ExpressionTree → Parser Token (ExpressionTree ⊎ ExpressionTree)
-  suffix_turn a = attempt_if (ends_in_name a) type_arguments_of_call (λ ts. call_rest a ts >>= (λ c. pure (inl c))) (attempt (suffix a) (λ c. pure (inl c)) (pure (inr a)))
+  abbrev pub suffix_turn : ExpressionTree → Parser Token (ExpressionTree ⊎ ExpressionTree)
+  suffix_turn a = attempt_if (ends_in_name a) type_arguments_of_call (λ ts. call_parser >>= (λ es. pure (inl (called a ts es))))
+      (attempt_if (has_call a) call_parser (λ es. pure (inl (called a [] es)))
+      (attempt_if (has_more a) (suffix a) (λ c. pure (inl c)) (pure (inr a))))
 
-  abbrev postfix : Parser Token ExpressionTree
+  abbrev pub postfix : Parser Token ExpressionTree
   postfix = primary >>= (λ a. repeat suffix_turn a)
 
   abbrev pub prefix_parser : Parser Token ExpressionTree
   prefix_parser = attempt_if deep (meant prefix_of) (λ o. below.prefix at >>= (λ a. pure (e.prefix o.0.pos o.1 a))) postfix
 
-  abbrev cast_turn : ExpressionTree → Parser Token (ExpressionTree ⊎ ExpressionTree)
+  abbrev pub cast_turn : ExpressionTree → Parser Token (ExpressionTree ⊎ ExpressionTree)
   cast_turn a = attempt_if (has_more a) (meant cast_of) (λ safe. lines >> (type_parser room >>= (λ t. pure (inl (e.cast (place a) a safe.1 t))))) (pure (inr a))
 
   abbrev pub cast_parser : Parser Token ExpressionTree
   cast_parser = prefix_parser >>= (λ a. repeat cast_turn a)
 
-  abbrev build : Token × BinaryOperator → ExpressionTree → ExpressionTree → ExpressionTree
+  abbrev pub build : Token × BinaryOperator → ExpressionTree → ExpressionTree → ExpressionTree
   build o a b = e.binary (place a) o.1 a b
 
   abbrev pub multiplicative_parser : Parser Token ExpressionTree
@@ -181,7 +180,7 @@ module _ (room : ℕ) (below : Parsers) (at : Context) where
   abbrev pub infix_parser : Parser Token ExpressionTree
   infix_parser = chain has_more additive_parser (meant infix_of) is_new_line (below.additive at) build
 
-  abbrev elvis_parser : Parser Token ExpressionTree
+  abbrev pub elvis_parser : Parser Token ExpressionTree
   elvis_parser = chain has_more infix_parser (lines >> meant elvis_of) is_new_line (below.infixed at) build
 
   abbrev pub test_parser : Parser Token ExpressionTree

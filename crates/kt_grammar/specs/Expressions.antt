@@ -1,5 +1,5 @@
 -- The grammar of expressions: each production over the phrases that have one level less.
-use Rattle.std.specs.Prelude.{ℕ, ◌+◌, Bool, true, false, nat_lt, nat_le, List, [], ◌∷◌, ◌++◌, Option, None, Some, is_some, ◌⊎◌}
+use Rattle.std.specs.Prelude.{ℕ, ◌+◌, Bool, true, false, not, nat_lt, nat_le, List, [], ◌∷◌, ◌++◌, Option, None, Some, is_some, ◌⊎◌}
 use Rattle.std.proofs.Common.{inl, inr}
 use Rattle.kt_base.specs.declared.refusals.Pos.{Pos}
 use Rattle.kt_tree.specs.declared.tokens.Token.{Token}
@@ -22,12 +22,12 @@ use Rattle.kt_grammar.specs.Levels.{Context, Phrases, place, ends_in_name}
 -- ---- strings
 
 -- a part of a string, where so many levels are left for what it holds
--- part : text | '$' ID | '$' 'this' | '${' n expr n '}'
+-- part : '$' ID | '$' 'this' | '${' n expr n '}' | text
 abbrev pub IsPart : ℕ → (ExpressionTree → List Token → List Token → Type 0) → PartTree → List Token → List Token → Type 0
-IsPart left Expression = Either (Seq (IsMeant text_of) (λ t. Gives (e.text t.1)))
-    (Either (If (some_levels left) (Seq (IsToken is_name_part) (λ t. Gives (e.name_part (name_of t)))) Empty)
+IsPart left Expression = Either (If (some_levels left) (Seq (IsToken is_name_part) (λ t. Gives (e.name_part (name_of t)))) Empty)
     (Either (If (some_levels left) (Seq (IsToken is_this_part) (λ _. Gives e.this_part)) Empty)
-    (Seq (IsToken is_open_template) (λ _. Seq (IsPast Expression) (λ a. Seq (IsPast (IsSign sign.CloseBrace)) (λ _. Gives (e.hole a)))))))
+    (Either (Seq (IsToken is_open_template) (λ _. Seq (IsPast Expression) (λ a. Seq (IsPast (IsSign sign.CloseBrace)) (λ _. Gives (e.hole a)))))
+    (Seq (IsMeant text_of) (λ t. Gives (e.text t.1)))))
 
 -- ---- lambda literals
 
@@ -59,7 +59,7 @@ module _ (room : ℕ) (below : Phrases) (at : Context) where
   IsNextPart (p ∷ ps) = If (nat_le (parts_levels (parts_of (p ∷ ps)) + 2) room) (below.part at) Empty
 
   abbrev pub PartTurn : Pos → List PartTree → List PartTree ⊎ ExpressionTree → List Token → List Token → Type 0
-  PartTurn start ps = Either (Seq (IsNextPart ps) (λ p. Gives (inl (ps ++ p ∷ [])))) (Seq (IsToken is_close_quote) (λ _. Gives (inr (e.template start (parts_of ps)))))
+  PartTurn start ps = Either (Seq (IsToken is_close_quote) (λ _. Gives (inr (e.template start (parts_of ps))))) (Seq (IsNextPart ps) (λ p. Gives (inl (ps ++ p ∷ []))))
 
   -- string : '"' part* '"'
   abbrev pub IsString : ExpressionTree → List Token → List Token → Type 0
@@ -133,41 +133,47 @@ module _ (room : ℕ) (below : Phrases) (at : Context) where
   -- 'return' expr?
   -- It takes an expression where one follows, and doesn't stand in a lambda.
   abbrev pub IsReturn : ExpressionTree → List Token → List Token → Type 0
-  IsReturn = If at.in_lambda Empty (Seq (IsKeyword word.Return) (λ t. Where (below.disjunction at) (λ a. Gives (e.return t.pos (e.some_expression a))) (Gives (e.return t.pos e.no_expression))))
+  IsReturn = If (not at.in_lambda) (Seq (IsKeyword word.Return) (λ t. Where (below.disjunction at) (λ a. Gives (e.return t.pos (e.some_expression a))) (Gives (e.return t.pos e.no_expression)))) Empty
 
-  -- 'break' | 'continue', in a loop
-  abbrev pub IsJump : ExpressionTree → List Token → List Token → Type 0
-  IsJump = If at.in_loop (Either (Seq (IsKeyword word.Break) (λ t. Gives (e.break t.pos))) (Seq (IsKeyword word.Continue) (λ t. Gives (e.continue t.pos)))) Empty
+  -- 'break', in a loop
+  abbrev pub IsBreak : ExpressionTree → List Token → List Token → Type 0
+  IsBreak = If at.in_loop (Seq (IsKeyword word.Break) (λ t. Gives (e.break t.pos))) Empty
 
-  -- primary : literal | string | ID | 'this' | '(' expr ')' | lambda | if | when | try | 'throw' expr | 'return' expr?
-  --         | 'break' | 'continue'
+  -- 'continue', in a loop
+  abbrev pub IsContinue : ExpressionTree → List Token → List Token → Type 0
+  IsContinue = If at.in_loop (Seq (IsKeyword word.Continue) (λ t. Gives (e.continue t.pos))) Empty
+
+  -- primary : '(' expr ')' | if | 'throw' expr | 'return' expr? | 'break' | 'continue' | lambda | when | try | string | 'this'
+  --         | ID | literal
   abbrev pub IsPrimary : ExpressionTree → List Token → List Token → Type 0
-  IsPrimary = Either IsLiteral (Either IsString (Either IsName (Either IsThis (Either IsParenthesized (Either IsLambda (Either IsIf
-      (Either IsWhen (Either IsTry (Either IsThrow (Either IsReturn IsJump))))))))))
+  IsPrimary = Either IsParenthesized (Either IsIf (Either IsThrow (Either IsReturn (Either IsBreak (Either IsContinue
+      (Either IsLambda (Either IsWhen (Either IsTry (Either IsString (Either IsThis (Either IsName IsLiteral)))))))))))
 
   -- '(' args? ')' lambda?      args : expr (',' expr)*
   -- A lambda that follows is the last argument.
   abbrev pub IsArguments : List ExpressionTree → List Token → List Token → Type 0
   IsArguments = Seq (IsSign sign.OpenParenthesis) (λ _. Seq (MaybeCommaList (is_sign sign.CloseParenthesis) (below.disjunction at)) (λ es. Where (below.lambda at) (λ l. Gives (es ++ l ∷ [])) (Gives es)))
 
-  -- call : '(' args? ')' lambda? | lambda, behind the type arguments
-  abbrev pub IsCall : ExpressionTree → List TypeTree → ExpressionTree → List Token → List Token → Type 0
-  IsCall f ts = Seq (Either IsArguments (Seq (below.lambda at) (λ l. Gives (l ∷ [])))) (λ es. Gives (e.call (place f) f ts (expressions_of es)))
+  -- call : '(' args? ')' lambda? | lambda, behind its type arguments
+  abbrev pub IsCall : List ExpressionTree → List Token → List Token → Type 0
+  IsCall = Either IsArguments (Seq (below.lambda at) (λ l. Gives (l ∷ [])))
+
+  abbrev pub called : ExpressionTree → List TypeTree → List ExpressionTree → ExpressionTree
+  called f ts es = e.call (place f) f ts (expressions_of es)
 
   -- the call has room
   abbrev pub has_call : ExpressionTree → Bool
-  has_call f = nat_le (levels (e.call (place f) f [] e.expressions_end)) room
+  has_call f = nat_le (levels (called f [] [])) room
 
   -- there is room for one level more
   abbrev pub has_more : ExpressionTree → Bool
   has_more a = nat_lt (levels a) room
 
-  -- suffix : '!!' | call | '[' expr ']' | n ('.' | '?.') n ID, but for a call with type arguments
+  -- suffix : '!!' | '[' expr ']' | n ('.' | '?.') n ID, beside a call
   abbrev pub IsSuffix : ExpressionTree → ExpressionTree → List Token → List Token → Type 0
-  IsSuffix a = Either (If (has_call a) (IsCall a []) Empty) (If (has_more a)
-      (Either (Seq (IsSign sign.NotNull) (λ _. Gives (e.not_null (place a) a)))
+  IsSuffix a = Either (Seq (IsSign sign.NotNull) (λ _. Gives (e.not_null (place a) a)))
       (Either (Seq (IsSign sign.OpenBracket) (λ _. Seq (below.disjunction at) (λ i. Seq (IsSign sign.CloseBracket) (λ _. Gives (e.index (place a) a i)))))
-      (Seq (IsPast (IsMeant member_of)) (λ safe. Seq (IsPast IsIdentifier) (λ x. Gives (e.member (place a) a safe.1 (name_of x))))))) Empty)
+      (Seq (IsPast (IsMeant member_of)) (λ safe. Seq (IsPast IsIdentifier) (λ x. Gives (e.member (place a) a safe.1 (name_of x))))))
 
   -- targs, and then '(' or '{'
   abbrev pub IsTypeArgumentsOfCall : List TypeTree → List Token → List Token → Type 0
@@ -176,7 +182,9 @@ module _ (room : ℕ) (below : Phrases) (at : Context) where
   -- Where a name is followed by tokens that read as type arguments and then `(` or `{`, they are read so. As many suffixes are
   -- taken as follow.
   abbrev pub SuffixTurn : ExpressionTree → ExpressionTree ⊎ ExpressionTree → List Token → List Token → Type 0
-  SuffixTurn a = WhereRoom (ends_in_name a) IsTypeArgumentsOfCall (λ ts. Seq (IsCall a ts) (λ c. Gives (inl c))) (Where (IsSuffix a) (λ c. Gives (inl c)) (Gives (inr a)))
+  SuffixTurn a = WhereRoom (ends_in_name a) IsTypeArgumentsOfCall (λ ts. Seq IsCall (λ es. Gives (inl (called a ts es))))
+      (WhereRoom (has_call a) IsCall (λ es. Gives (inl (called a [] es)))
+      (WhereRoom (has_more a) (IsSuffix a) (λ c. Gives (inl c)) (Gives (inr a))))
 
   -- postfix : primary suffix*
   abbrev pub IsPostfix : ExpressionTree → List Token → List Token → Type 0

@@ -1,20 +1,56 @@
 -- What the public laws say.
 use Rattle.std.specs.Prelude.{◌≡◌, ℕ, suc, ◌-◌, List, [], length, Ok, Err}
 use Rattle.kt_tree.specs.declared.tokens.Token.{Token}
-use Rattle.kt_tree.specs.Types.{TypeTree}
-use Rattle.kt_grammar.specs.Parsers.{cursor}
+use Rattle.kt_grammar.specs.Parsers.{Parser, cursor}
 use Rattle.kt_grammar.specs.Sentences.{IsSentence, IsRefusedAt, OneValue}
 use Rattle.kt_grammar.specs.Types.{IsType}
 use Rattle.kt_grammar.specs.Readers.{type_parser}
+use Rattle.kt_grammar.specs.Levels.{Context}
+use Rattle.kt_grammar.specs.Statements.{phrases}
+use Rattle.kt_grammar.specs.StatementParser.{parsers}
+use Rattle.kt_grammar.specs.Declarations.{IsFile}
+use Rattle.kt_grammar.specs.DeclarationParser.{file_parser}
+
+-- each sentence is read by the parser
+abbrev pub SentencesAreRead : {A : Type 0} → Parser Token A → (A → List Token → List Token → Type 0) → Type 0
+SentencesAreRead {A} p L = (ts : List Token) (a : A) → IsSentence L ts a → (far : List Token) × (p (cursor ts ts) ≡ Ok (a, cursor [] far))
+
+-- what the parser refuses is the first token that no sentence has there
+abbrev pub RefusesFirst : {A : Type 0} → Parser Token A → (A → List Token → List Token → Type 0) → Type 0
+RefusesFirst p L = (ts k : List Token) → p (cursor ts ts) ≡ Err k → IsRefusedAt L ts (length ts - length k)
 
 -- a list of tokens spells at most one type
 abbrev pub OneType : Type 0
 OneType = (n : ℕ) → OneValue (IsType (suc n))
 
--- a type is read by the parser of types
 abbrev pub TypeIsRead : Type 0
-TypeIsRead = (n : ℕ) (ts : List Token) (t : TypeTree) → IsSentence (IsType (suc n)) ts t → (far : List Token) × (type_parser (suc n) (cursor ts ts) ≡ Ok (t, cursor [] far))
+TypeIsRead = (n : ℕ) → SentencesAreRead (type_parser (suc n)) (IsType (suc n))
 
--- what the parser of types refuses is the first token that no type has there
 abbrev pub TypeIsRefused : Type 0
-TypeIsRefused = (n : ℕ) (ts k : List Token) → type_parser (suc n) (cursor ts ts) ≡ Err k → IsRefusedAt (IsType (suc n)) ts (length ts - length k)
+TypeIsRefused = (n : ℕ) → RefusesFirst (type_parser (suc n)) (IsType (suc n))
+
+-- a list of tokens spells at most one expression, of any number of levels and wherever it stands
+abbrev pub OneExpression : Type 0
+OneExpression = (n : ℕ) (at : Context) → OneValue ((phrases (suc n)).disjunction at)
+
+abbrev pub ExpressionIsRead : Type 0
+ExpressionIsRead = (n : ℕ) (at : Context) → SentencesAreRead ((parsers (suc n)).disjunction at) ((phrases (suc n)).disjunction at)
+
+abbrev pub ExpressionIsRefused : Type 0
+ExpressionIsRefused = (n : ℕ) (at : Context) → RefusesFirst ((parsers (suc n)).disjunction at) ((phrases (suc n)).disjunction at)
+
+-- a list of tokens spells at most one statement
+abbrev pub OneStatement : Type 0
+OneStatement = (n : ℕ) (at : Context) → OneValue ((phrases (suc n)).statement at)
+
+abbrev pub StatementIsRead : Type 0
+StatementIsRead = (n : ℕ) (at : Context) → SentencesAreRead ((parsers (suc n)).statement at) ((phrases (suc n)).statement at)
+
+abbrev pub StatementIsRefused : Type 0
+StatementIsRefused = (n : ℕ) (at : Context) → RefusesFirst ((parsers (suc n)).statement at) ((phrases (suc n)).statement at)
+
+abbrev pub FileIsRead : Type 0
+FileIsRead = SentencesAreRead file_parser IsFile
+
+abbrev pub FileIsRefused : Type 0
+FileIsRefused = RefusesFirst file_parser IsFile

@@ -1,5 +1,5 @@
 -- Parsers of statements, and of phrases of each number of levels.
-use Rattle.std.specs.Prelude.{ℕ, zero, suc, Bool, true, false, nat_lt, ◌&&◌, List, [], ◌∷◌, Option, None, Some}
+use Rattle.std.specs.Prelude.{ℕ, zero, suc, Bool, true, false, not, nat_lt, ◌&&◌, List, [], ◌∷◌, Option, None, Some}
 use Rattle.kt_tree.specs.declared.tokens.Token.{Token}
 use Rattle.kt_tree.specs.declared.tokens.Sign.TheVariants as sign
 use Rattle.kt_tree.specs.declared.tokens.Keyword.TheVariants as word
@@ -7,55 +7,51 @@ use Rattle.kt_tree.specs.Tokens.{is_keyword, is_sign, is_identifier}
 use Rattle.kt_tree.specs.Bodies as e
 use Rattle.kt_tree.specs.Bodies.{ExpressionTree, StatementTree, BodyTree, EntryTree, ConditionTree, CatchTree, conditions_of, maybe_expression}
 use Rattle.kt_tree.specs.Levels.{levels}
-use Rattle.kt_grammar.specs.Parsers.{some_levels, Parser, ◌>>=◌, ◌>>◌, pure, token, on, attempt_if}
+use Rattle.kt_grammar.specs.Parsers.{some_levels, first, Parser, ◌>>=◌, ◌>>◌, pure, token, on, attempt_if}
 use Rattle.kt_grammar.specs.Terminals.{name_of, variable_of, assignment_of, step_of, range_of, type_check_of}
 use Rattle.kt_grammar.specs.Levels.{Context, place, is_target}
 use Rattle.kt_grammar.specs.Statements.{in_loop}
 use Rattle.kt_grammar.specs.Readers.{refuse, meant, on_if, lines, expect, maybe, several_items, type_parser}
 use Rattle.kt_grammar.specs.ExpressionParser.{Parsers, part_of, parameter_of, block_rest, block_of, lambda_parser, prefix_parser, cast_parser, multiplicative_parser, additive_parser, infix_parser, test_parser, comparison_parser, equality_parser, conjunction_parser, disjunction_parser}
 
-abbrev begins_with_brace : List Token → Bool
-begins_with_brace [] = false
-begins_with_brace (t ∷ ts) = is_sign sign.OpenBrace t
+abbrev pub refused_if : {A : Type 0} → Bool → Parser Token A → Parser Token A
+refused_if true p = refuse
+refused_if false p = p
 
-abbrev by_brace : {A : Type 0} → Bool → Parser Token A → Parser Token A
-by_brace true p = refuse
-by_brace false p = p
-
--- no statement begins with `{`
-abbrev unless_brace : {A : Type 0} → Parser Token A → Parser Token A
-unless_brace p = λ c. by_brace (begins_with_brace c.rest) p c
+-- refuses where the next token passes the test
+abbrev pub unless : {A : Type 0} → (Token → Bool) → Parser Token A → Parser Token A
+unless test p = λ c. refused_if (first test c.rest) p c
 
 module _ (room : ℕ) (below : Parsers) (at : Context) where
   abbrev deep : Bool
   deep = some_levels below.levels
 
-  abbrev initializer : Parser Token (Option ExpressionTree)
+  abbrev pub initializer : Parser Token (Option ExpressionTree)
   initializer = on_if deep (is_sign sign.Assign) (λ _. lines >> (below.disjunction at >>= (λ a. pure (Some a)))) (pure None)
 
-  abbrev local_rest : Token × Bool → Parser Token StatementTree
+  abbrev pub local_rest : Token × Bool → Parser Token StatementTree
   local_rest var = token is_identifier >>= (λ name. maybe (is_sign sign.Colon) (type_parser room) >>= (λ t. initializer >>= (λ a. pure (e.local var.0.pos var.1 (name_of name) t (maybe_expression a)))))
 
-  abbrev assigns : ExpressionTree → Bool
+  abbrev pub assigns : ExpressionTree → Bool
   assigns a = is_target a && nat_lt (levels a) room
 
-  abbrev simple : Parser Token StatementTree
+  abbrev pub simple : Parser Token StatementTree
   simple = disjunction_parser room below at >>= (λ a. attempt_if (assigns a) (meant assignment_of) (λ o. lines >> (below.disjunction at >>= (λ b. pure (e.assign (place a) a o.1 b))))
       (attempt_if (assigns a) (meant step_of) (λ o. pure (e.step (place a) a o.1)) (pure (e.evaluate (place a) a))))
 
-  abbrev while_rest : Token → Parser Token StatementTree
+  abbrev pub while_rest : Token → Parser Token StatementTree
   while_rest t = expect sign.OpenParenthesis >> (below.disjunction at >>= (λ a. expect sign.CloseParenthesis >> (lines >> (below.body (in_loop at) >>= (λ b. pure (e.while t.pos a b))))))
 
-  abbrev do_rest : Token → Parser Token StatementTree
+  abbrev pub do_rest : Token → Parser Token StatementTree
   do_rest t = lines >> (block_of (below.statement (in_loop at)) >>= (λ b. lines >> (token (is_keyword word.While) >> (expect sign.OpenParenthesis >> (below.disjunction at >>= (λ a. expect sign.CloseParenthesis >> pure (e.do_while t.pos b a)))))))
 
-  abbrev for_rest : Token → Parser Token StatementTree
+  abbrev pub for_rest : Token → Parser Token StatementTree
   for_rest t = expect sign.OpenParenthesis >> (token is_identifier >>= (λ name. token (is_keyword word.In) >> (below.additive at >>= (λ a. meant range_of >>= (λ o. below.additive at >>= (λ b.
       expect sign.CloseParenthesis >> (lines >> (below.body (in_loop at) >>= (λ body. pure (e.for t.pos (name_of name) a o.1 b body))))))))))
 
   -- no statement begins with `{`
   abbrev pub statement_parser : Parser Token StatementTree
-  statement_parser = attempt_if true (meant variable_of) local_rest (on_if deep (is_keyword word.While) while_rest (on_if deep (is_keyword word.Do) do_rest (on_if deep (is_keyword word.For) for_rest (unless_brace simple))))
+  statement_parser = attempt_if true (meant variable_of) local_rest (on_if deep (is_keyword word.While) while_rest (on_if deep (is_keyword word.Do) do_rest (on_if deep (is_keyword word.For) for_rest (unless (is_sign sign.OpenBrace) simple))))
 
   abbrev pub body_parser : Parser Token BodyTree
   body_parser = on (is_sign sign.OpenBrace) (λ _. block_rest statement_parser >>= (λ b. pure (e.braces b))) (statement_parser >>= (λ s. pure (e.single s)))
@@ -63,8 +59,15 @@ module _ (room : ℕ) (below : Parsers) (at : Context) where
   abbrev pub condition_parser : Bool → Parser Token ConditionTree
   condition_parser subject = attempt_if subject (meant type_check_of) (λ not. type_parser room >>= (λ t. pure (e.of_type not.1 t))) (below.disjunction at >>= (λ a. pure (e.equals a)))
 
+  abbrev pub entry_head : Bool → Parser Token (List ConditionTree)
+  entry_head subject = on (is_keyword word.Else) (λ _. pure []) (several_items (pure tt) (below.condition at subject))
+
+  abbrev pub entry_rest : List ConditionTree → Parser Token EntryTree
+  entry_rest cs = lines >> (expect sign.Arrow >> (lines >> (below.body at >>= (λ b. pure (e.entry (conditions_of cs) b)))))
+
+  -- none where no level is left for its body
   abbrev pub entry_parser : Bool → Parser Token EntryTree
-  entry_parser subject = on (is_keyword word.Else) (λ _. pure []) (several_items (pure tt) (below.condition at subject)) >>= (λ cs. lines >> (expect sign.Arrow >> (lines >> (below.body at >>= (λ b. pure (e.entry (conditions_of cs) b))))))
+  entry_parser subject = refused_if (not deep) (entry_head subject >>= entry_rest)
 
   abbrev pub catch_parser : List ℕ → Parser Token CatchTree
   catch_parser name = type_parser room >>= (λ t. expect sign.CloseParenthesis >> (lines >> (block_of (below.statement at) >>= (λ b. pure (e.catch name t b)))))

@@ -1,6 +1,7 @@
 //! Laws on the grammar. A body has nothing to do: the contract is the law.
 
-ghost use Rattle.kt_grammar.specs.Laws.{OneType, TypeIsRead, TypeIsRefused};
+ghost use Rattle.kt_grammar.specs.Declarations.{OneTree};
+ghost use Rattle.kt_grammar.specs.Laws.{FileIsRead, FileIsRefused, OneExpression, ExpressionIsRead, ExpressionIsRefused, OneStatement, StatementIsRead, StatementIsRefused, OneType, TypeIsRead, TypeIsRefused};
 
 /// A list of tokens spells at most one type.
 #[tactic(auto, using(crate::proofs::TypeLaws::one_type))]
@@ -13,4 +14,45 @@ pub fn one_type()
 pub fn types_are_read()
     ensures read { TypeIsRead }
     ensures refused { TypeIsRefused }
+{}
+
+/// A list of tokens spells at most one expression, of any number of levels and wherever it stands.
+#[tactic(auto, using(crate::proofs::ExpressionLaws::one_expression))]
+pub fn one_expression()
+    ensures { OneExpression }
+{}
+
+/// The parser of expressions in the definitions reads exactly the expressions, and refuses the first token that no
+/// expression has there.
+#[tactic(auto, using(crate::proofs::ExpressionLaws::expression_is_read, crate::proofs::ExpressionLaws::expression_is_refused))]
+pub fn expressions_are_read()
+    ensures read { ExpressionIsRead }
+    ensures refused { ExpressionIsRefused }
+{}
+
+/// A list of tokens spells at most one statement.
+#[tactic(auto, using(crate::proofs::ExpressionLaws::one_statement))]
+pub fn one_statement()
+    ensures { OneStatement }
+{}
+
+/// The parser of statements in the definitions reads exactly the statements, and refuses the first token that no
+/// statement has there.
+#[tactic(auto, using(crate::proofs::ExpressionLaws::statement_is_read, crate::proofs::ExpressionLaws::statement_is_refused))]
+pub fn statements_are_read()
+    ensures read { StatementIsRead }
+    ensures refused { StatementIsRefused }
+{}
+
+/// A list of tokens has at most one tree of a file.
+pub fn one_tree()
+    ensures { OneTree }
+{}
+
+/// The parser of files in the definitions reads exactly the files, and refuses the first token that extends no prefix of a
+/// file's tokens.
+#[tactic(auto, using(crate::proofs::FileLaws::file_is_read, crate::proofs::FileLaws::file_is_refused))]
+pub fn files_are_read()
+    ensures read { FileIsRead }
+    ensures refused { FileIsRefused }
 {}
