@@ -9,8 +9,6 @@ pub mod Expressions
 pub mod Statements
 pub mod Declarations
 pub mod Cursors
-pub mod Lexemes
-pub mod Texts
 pub mod Readers
 pub mod ExpressionParser
 pub mod StatementParser

@@ -8,8 +8,16 @@ use Rattle.kt_tree.specs.declared.tokens.Keyword.{Keyword}
 use Rattle.kt_tree.specs.declared.tokens.Keyword.TheVariants as word
 use Rattle.kt_tree.specs.declared.tokens.Sign.{Sign}
 use Rattle.kt_tree.specs.declared.tokens.Sign.TheVariants as sign
-use Rattle.kt_grammar.specs.Parsers.{first}
-use Rattle.kt_grammar.specs.Phrases.{AllPass}
+
+-- there is a first character, and it passes the test
+abbrev pub first : (ℕ → Bool) → List ℕ → Bool
+first test [] = false
+first test (c ∷ cs) = test c
+
+-- each character passes the test
+abbrev pub AllPass : (ℕ → Bool) → List ℕ → Type 0
+AllPass test [] = Unit {0}
+AllPass test (c ∷ cs) = (test c ≡ true) × AllPass test cs
 
 -- ---- characters
 
@@ -38,7 +46,7 @@ hexadecimal c = if is_digit c then c - 48 else (if nat_le 97 c then c - 87 else 
 abbrev pub begins : List ℕ → List ℕ → Bool
 begins [] text = true
 begins (c ∷ cs) [] = false
-begins (c ∷ cs) (d ∷ text) = (c == d) && begins cs text
+begins (c ∷ cs) (d ∷ text) = (d == c) && begins cs text
 
 -- ---- words
 

@@ -1,63 +1,57 @@
 -- The tokens of a text: each is the longest that is allowed at its place.
-use Rattle.std.specs.Prelude.{◌≡◌, ℕ, ◌+◌, ◌≤◌, ◌<◌, Bool, true, false, ◌&&◌, ◌==◌, if◌then◌else◌, List, [], ◌∷◌, ◌++◌, length, ◌⊎◌}
+use Rattle.std.specs.Prelude.{◌≡◌, ℕ, ◌+◌, ◌≤◌, ◌<◌, Bool, true, false, not, ◌&&◌, ◌==◌, if◌then◌else◌, List, [], ◌∷◌, ◌++◌, length, drop, ◌⊎◌}
 use Rattle.kt_base.specs.declared.refusals.Pos.{Pos}
 use Rattle.kt_tree.specs.declared.tokens.Token.{Token}
 use Rattle.kt_tree.specs.declared.tokens.TokenKind.{TokenKind}
 use Rattle.kt_tree.specs.declared.tokens.TokenKind.TheVariants as kind
 use Rattle.kt_tree.specs.declared.tokens.Sign.{Sign}
 use Rattle.kt_tree.specs.declared.tokens.Sign.TheVariants as sign
-use Rattle.kt_grammar.specs.Lexemes.{IsOrdinary, IsInString, IsBlank}
+use denote.Enum.Bare.{sameb}
+use Rattle.kt_lexer.specs.contracts.brackets.Open as open_kind
+use Rattle.kt_lexer.specs.declared.brackets.Open.{Open}
+use Rattle.kt_lexer.specs.declared.brackets.Open.TheVariants as opening
+use Rattle.kt_lexer.specs.Lexemes.{IsOrdinary, IsInString, IsBlank}
 
--- what is open: a bracket, or a string
-pub data Open : Type 0 where
-  parenthesis : Open
-  bracket : Open
-  brace : Open
-  string : Open
+-- the same bracket, or a string both
+unfoldable pub same_open : Open → Open → Bool
+same_open = sameb open_kind.the_type
 
 -- the text is within a string, and not within brackets in it
 abbrev pub in_string : List Open → Bool
-in_string (string ∷ opens) = true
+in_string (opening.String ∷ opens) = true
 in_string _ = false
 
 -- the ends of lines count for nothing
 abbrev pub drops_lines : List Open → Bool
-drops_lines (parenthesis ∷ opens) = true
-drops_lines (bracket ∷ opens) = true
+drops_lines (opening.Parenthesis ∷ opens) = true
+drops_lines (opening.Bracket ∷ opens) = true
 drops_lines _ = false
 
-abbrev pub close_parenthesis : List Open → List Open
-close_parenthesis (parenthesis ∷ opens) = opens
-close_parenthesis opens = opens
-
-abbrev pub close_bracket : List Open → List Open
-close_bracket (bracket ∷ opens) = opens
-close_bracket opens = opens
-
-abbrev pub close_brace : List Open → List Open
-close_brace (brace ∷ opens) = opens
-close_brace opens = opens
-
-abbrev pub close_string : List Open → List Open
-close_string (string ∷ opens) = opens
-close_string opens = opens
+-- the innermost open one is of this kind
+abbrev pub closes : Open → List Open → Bool
+closes o [] = false
+closes o (innermost ∷ opens) = same_open innermost o
 
 -- A closing bracket closes the innermost open one if it is of its kind, else it changes nothing.
+abbrev pub closed : Open → List Open → List Open
+closed o opens = if closes o opens then drop 1 opens else opens
+
+-- what is open behind a sign
 abbrev pub after_sign : Sign → List Open → List Open
-after_sign sign.OpenParenthesis opens = parenthesis ∷ opens
-after_sign sign.OpenBracket opens = bracket ∷ opens
-after_sign sign.OpenBrace opens = brace ∷ opens
-after_sign sign.CloseParenthesis opens = close_parenthesis opens
-after_sign sign.CloseBracket opens = close_bracket opens
-after_sign sign.CloseBrace opens = close_brace opens
+after_sign sign.OpenParenthesis opens = opening.Parenthesis ∷ opens
+after_sign sign.OpenBracket opens = opening.Bracket ∷ opens
+after_sign sign.OpenBrace opens = opening.Brace ∷ opens
+after_sign sign.CloseParenthesis opens = closed opening.Parenthesis opens
+after_sign sign.CloseBracket opens = closed opening.Bracket opens
+after_sign sign.CloseBrace opens = closed opening.Brace opens
 after_sign _ opens = opens
 
 -- what is open behind a token; `${` opens as `{` does
 abbrev pub after_token : TokenKind → List Open → List Open
 after_token (kind.Sign s) opens = after_sign s opens
-after_token kind.OpenTemplate opens = brace ∷ opens
-after_token kind.OpenQuote opens = string ∷ opens
-after_token kind.CloseQuote opens = close_string opens
+after_token kind.OpenTemplate opens = opening.Brace ∷ opens
+after_token kind.OpenQuote opens = opening.String ∷ opens
+after_token kind.CloseQuote opens = closed opening.String opens
 after_token _ opens = opens
 
 -- the place behind a character
@@ -90,7 +84,7 @@ is_line_end _ = false
 
 -- the token counts, where this is open
 abbrev pub counts : List Open → TokenKind → Bool
-counts opens k = if is_line_end k && drops_lines opens then false else true
+counts opens k = not (is_line_end k && drops_lines opens)
 
 -- The text from this place on has these tokens, where this is open. END comes last, at the place of the end.
 pub data AreTokens : List Open → Pos → List ℕ → List Token → Type 0 where
@@ -129,3 +123,15 @@ IsLexRefusedAt text at = BreaksAt [] text_start text at
 -- a text has at most one list of tokens
 abbrev pub OneTokens : Type 0
 OneTokens = (text : List ℕ) (ts us : List Token) → AreTokensOf text ts → AreTokensOf text us → ts ≡ us
+
+-- a text has tokens, or a place at which it has none
+abbrev pub TokensOrRefused : Type 0
+TokensOrRefused = (text : List ℕ) → ((ts : List Token) × AreTokensOf text ts) ⊎ ((at : Pos) × IsLexRefusedAt text at)
+
+-- not both
+abbrev pub NotBoth : Type 0
+NotBoth = (text : List ℕ) (ts : List Token) (at : Pos) → AreTokensOf text ts → IsLexRefusedAt text at → ⊥
+
+-- there is at most one such place
+abbrev pub OneRefusal : Type 0
+OneRefusal = (text : List ℕ) (a b : Pos) → IsLexRefusedAt text a → IsLexRefusedAt text b → a ≡ b

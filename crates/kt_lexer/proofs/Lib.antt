@@ -1,0 +1,17 @@
+pub mod Numerals
+pub mod CommentEnds
+pub mod Cases
+pub mod Found
+pub mod FoundNumbers
+pub mod FoundLiterals
+pub mod FoundComments
+pub mod FoundSigns
+pub mod FoundLexemes
+pub mod Reached
+pub mod ReachedParts
+pub mod ReachedLexemes
+pub mod Whole
+pub mod Standing
+pub mod WordBytes
+pub mod TextLengths
+pub mod Refusals

@@ -1,0 +1,4 @@
+pub mod Lexemes
+pub mod Texts
+pub mod Scanning
+pub mod Sources

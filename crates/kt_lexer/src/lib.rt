@@ -1,0 +1,23 @@
+//! The lexer: the tokens of a text.
+#![tactic(auto)]
+
+mod brackets;
+mod characters;
+mod comments;
+mod kinds;
+mod laws;
+mod lexing;
+mod literals;
+mod numbers;
+mod scanning;
+mod shapes;
+mod signs;
+mod sources;
+mod words;
+
+pub use laws::{not_both, one_refusal, one_tokens, tokens_or_refused};
+pub use lexing::lex;
+pub use sources::lex_bytes;
+
+#[cfg(test)]
+mod tests;
