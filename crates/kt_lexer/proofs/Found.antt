@@ -1,22 +1,20 @@
 -- What the shape at the front of a text is: a lexeme, whose characters stand before what is left.
-use Rattle.std.proofs.Common.{◌≡◌, ℕ, ◌+◌, ◌-◌, ◌<◌, ◌≤◌, Bool, true, false, cond, ◌||◌, ◌&&◌, not, List, [], ◌∷◌, ◌++◌, Option, None, Some, length, take, drop, refl, sym, ap, subst, ◌∙◌, ⊎_elim, inl, inr, arith}
+use Rattle.std.proofs.Common.{◌≡◌, ℕ, ◌-◌, ◌<◌, Bool, true, false, cond, ◌||◌, ◌&&◌, List, [], ◌∷◌, ◌++◌, Option, None, Some, length, take, refl, sym, ap, subst, ◌∙◌, arith}
 use Rattle.std.specs.Prelude.{◌==◌, find}
 use Rattle.std.specs.Cmp.Lexicographic.{pointwise, same_text}
-use Rattle.std.proofs.lemmas.Bool.{eqb-true, eqb-false}
-use Rattle.std.proofs.lemmas.List.{append_assoc, length-append}
+use Rattle.std.proofs.lemmas.Bool.{eqb-true}
+use Rattle.std.proofs.lemmas.List.{length-append}
 use Rattle.std.proofs.Math.Seq.{take-append_seam}
-use Rattle.kt_tree.specs.declared.tokens.Sign.{Sign}
 use Rattle.kt_tree.specs.declared.tokens.Sign.TheVariants as sign
 use Rattle.kt_tree.specs.declared.tokens.Keyword.{Keyword}
 use Rattle.kt_tree.specs.declared.tokens.Keyword.TheVariants as word
 use Rattle.kt_tree.specs.declared.tokens.TokenKind.TheVariants as kind
 use Rattle.kt_lexer.specs.declared.shapes.Shape.{Shape}
-use Rattle.kt_lexer.specs.declared.shapes.Shape.TheVariants as shape
 use Rattle.kt_lexer.specs.Lexemes as lexemes
 use Rattle.kt_lexer.specs.Lexemes.{first, AllPass}
-use Rattle.kt_lexer.specs.Texts.{IsLexeme, of_kind, blank, ordinary, between_tokens, inside}
+use Rattle.kt_lexer.specs.Texts.{IsLexeme, of_kind, ordinary}
 use Rattle.kt_lexer.specs.Scanning.{Found, behind, passed, lexeme_of, keywords, keyword_of, word_shape, behind_safe_as, safe_as_or, word_at}
-use Rattle.kt_lexer.proofs.Cases.{at, either, neither, both}
+use Rattle.kt_lexer.proofs.Cases.{both}
 
 -- the shape is that of a lexeme at the front of the text, with at least one character
 pub record IsFront (within : Bool) (text : List ℕ) (found : Shape × List ℕ) : Type 0 where

@@ -1,20 +1,18 @@
 -- What is found at the front of a text, within a string or not, is a lexeme.
-use Rattle.std.proofs.Common.{◌≡◌, ℕ, ◌<◌, Bool, true, false, cond, ◌||◌, ◌&&◌, not, List, [], ◌∷◌, ◌++◌, Option, None, Some, length, rules, refl, sym, ap, subst, ◌∙◌, ⊎_elim, arith}
+use Rattle.std.proofs.Common.{◌≡◌, ℕ, Bool, true, false, ◌||◌, ◌&&◌, not, List, [], ◌∷◌, ◌++◌, Option, None, Some, rules, refl, sym, ap, subst, ◌∙◌, ⊎_elim, arith}
 use Rattle.std.specs.Prelude.{◌==◌}
-use Rattle.std.proofs.lemmas.Bool.{eqb-true, ne_eqb}
+use Rattle.std.proofs.lemmas.Bool.{eqb-true}
 use denote.Enum.Bare.{same_true}
 use Rattle.kt_tree.specs.contracts.tokens.Keyword as keyword_kind
 use Rattle.kt_tree.specs.declared.tokens.Keyword.{Keyword}
 use Rattle.kt_tree.specs.declared.tokens.Keyword.TheVariants as word
-use Rattle.kt_tree.specs.declared.tokens.TokenKind.TheVariants as kind
 use Rattle.kt_tree.specs.Tokens.{same_keyword}
-use Rattle.kt_lexer.specs.declared.shapes.Shape.{Shape}
 use Rattle.kt_lexer.specs.declared.shapes.Shape.TheVariants as shape
 use Rattle.kt_lexer.specs.Lexemes as lexemes
 use Rattle.kt_lexer.specs.Lexemes.{first, AllPass, is_letter, is_digit, is_word, is_run}
-use Rattle.kt_lexer.specs.Texts.{IsLexeme, of_kind, ordinary, between_tokens, inside}
-use Rattle.kt_lexer.specs.Scanning.{Found, behind, passed, keyword_of, line_feed_at, ordinary_at, part_before, part_at, dollar_at, string_escape, escape_at, string_part_at, shape_at, lexeme_of, slash_at, exclamation_at, character_at}
-use Rattle.kt_lexer.proofs.Cases.{at, either, both}
+use Rattle.kt_lexer.specs.Texts.{ordinary, between_tokens, inside}
+use Rattle.kt_lexer.specs.Scanning.{Found, behind, keyword_of, line_feed_at, ordinary_at, part_before, dollar_at, string_escape, escape_at, string_part_at, shape_at, slash_at, exclamation_at, character_at}
+use Rattle.kt_lexer.proofs.Cases.{at, either}
 use Rattle.kt_lexer.proofs.Found.{IsFront, IsFound, run_of, passed_is, keyword_written, no_keyword, word_split, word_found}
 use Rattle.kt_lexer.proofs.FoundNumbers.{number_found}
 use Rattle.kt_lexer.proofs.FoundLiterals.{IsEscapeFound, escape_found, character_found}

@@ -1,16 +1,15 @@
 -- A character literal and an escape that are found at the front of a text are such.
-use Rattle.std.proofs.Common.{◌≡◌, ℕ, ◌<◌, Bool, true, false, cond, ◌&&◌, List, [], ◌∷◌, ◌++◌, Option, None, Some, length, refl, sym, ap, subst, ◌∙◌, arith}
+use Rattle.std.proofs.Common.{◌≡◌, ℕ, true, false, ◌&&◌, List, [], ◌∷◌, ◌++◌, Option, None, Some, refl, sym, ap, subst, ◌∙◌, arith}
 use Rattle.std.specs.Prelude.{◌==◌}
 use Rattle.std.proofs.lemmas.Bool.{eqb-true}
-use Rattle.std.proofs.lemmas.List.{append_assoc, length-append}
+use Rattle.std.proofs.lemmas.List.{append_assoc}
 use Rattle.kt_tree.specs.declared.tokens.TokenKind.TheVariants as kind
-use Rattle.kt_lexer.specs.declared.shapes.Shape.TheVariants as shape
 use Rattle.kt_lexer.specs.Lexemes as lexemes
 use Rattle.kt_lexer.specs.Lexemes.{IsSimpleEscape, IsEscape, simple, by_digits, IsOrdinary}
-use Rattle.kt_lexer.specs.Texts.{IsLexeme, of_kind, ordinary}
-use Rattle.kt_lexer.specs.Scanning.{unit_of, simple_escape, four_digits, simple_or, escape_at, closed_character, escaped_character, character_at}
+use Rattle.kt_lexer.specs.Texts.{ordinary}
+use Rattle.kt_lexer.specs.Scanning.{simple_escape, four_digits, simple_or, escape_at, closed_character, escaped_character, character_at}
 use Rattle.kt_lexer.proofs.Cases.{at, both}
-use Rattle.kt_lexer.proofs.Found.{IsFront, IsFound}
+use Rattle.kt_lexer.proofs.Found.{IsFound}
 
 -- what is found behind a `\` is an escape
 abbrev pub IsEscapeFound : List ℕ → Option (ℕ × List ℕ) → Type 0

@@ -1,14 +1,11 @@
 -- A number that is found at the front of a text is one.
-use Rattle.std.proofs.Common.{◌≡◌, ℕ, ◌<◌, ◌≤◌, Bool, true, false, cond, ◌&&◌, List, [], ◌∷◌, ◌++◌, Option, length, refl, sym, ap, subst, ◌∙◌, inl, inr, arith}
+use Rattle.std.proofs.Common.{◌≡◌, ℕ, ◌<◌, ◌≤◌, Bool, true, false, cond, List, [], ◌∷◌, ◌++◌, length, refl, sym, ap, subst, ◌∙◌, inl, inr, arith}
 use Rattle.std.specs.Prelude.{◌==◌}
 use Rattle.std.proofs.lemmas.Bool.{eqb-true, eqb-false, le-leb, leb-true}
 use Rattle.std.proofs.lemmas.List.{append_assoc, length-append}
-use Rattle.kt_tree.specs.declared.tokens.TokenKind.TheVariants as kind
-use Rattle.kt_lexer.specs.declared.shapes.Shape.{Shape}
-use Rattle.kt_lexer.specs.declared.shapes.Shape.TheVariants as shape
 use Rattle.kt_lexer.specs.Lexemes as lexemes
-use Rattle.kt_lexer.specs.Texts.{IsLexeme, of_kind, ordinary}
-use Rattle.kt_lexer.specs.Scanning.{behind, passed, behind_number, numbered, number_at}
+use Rattle.kt_lexer.specs.Texts.{ordinary}
+use Rattle.kt_lexer.specs.Scanning.{behind, behind_number, numbered, number_at}
 use Rattle.kt_lexer.proofs.Cases.{at, both}
 use Rattle.kt_lexer.proofs.Found.{IsFront, run_of, passed_is}
 

@@ -10,7 +10,7 @@ use Rattle.kt_lexer.specs.declared.shapes.Shape.TheVariants as shape
 use Rattle.kt_lexer.specs.Lexemes as lexemes
 use Rattle.kt_lexer.specs.Lexemes.{first, sign_text, may_follow, is_word}
 use Rattle.kt_lexer.specs.Texts.{IsLexeme, of_kind, ordinary, between_tokens}
-use Rattle.kt_lexer.specs.Scanning.{double_sign, single_sign, single_at, double_or, sign_at, slash_at, behind_is, exclamation_at, line_rest, comment_rest, blank_before, Found}
+use Rattle.kt_lexer.specs.Scanning.{double_sign, single_sign, single_at, double_or, sign_at, slash_at, behind_is, exclamation_at, comment_rest, blank_before, Found}
 use Rattle.kt_lexer.proofs.Cases.{at, both}
 use Rattle.kt_lexer.proofs.Found.{IsFront, IsFound}
 use Rattle.kt_lexer.proofs.FoundComments.{line_split, comment_found}

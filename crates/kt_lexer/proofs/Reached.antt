@@ -1,18 +1,17 @@
 -- Where the front of a text spells a lexeme, a shape is found: that of the lexeme, or one that goes further.
-use Rattle.std.proofs.Common.{◌≡◌, ℕ, zero, suc, ◌+◌, ◌-◌, ◌<◌, ◌≤◌, Bool, true, false, cond, ◌||◌, ◌&&◌, not, ◌⊎◌, inl, inr, List, [], ◌∷◌, ◌++◌, Option, None, Some, length, refl, sym, ap, subst, ◌∙◌, arith}
+use Rattle.std.proofs.Common.{◌≡◌, ℕ, ◌<◌, ◌≤◌, Bool, true, false, cond, ◌⊎◌, inl, inr, List, [], ◌∷◌, ◌++◌, Option, None, Some, length, refl, sym, ap, subst, ◌∙◌, arith}
 use Rattle.std.specs.Prelude.{◌==◌}
-use Rattle.std.proofs.lemmas.Bool.{eqb-true, ne_eqb, lt-leb, leb-true}
-use Rattle.std.proofs.lemmas.List.{append_assoc, length-append}
+use Rattle.std.proofs.lemmas.Bool.{ne_eqb, lt-leb, leb-true}
+use Rattle.std.proofs.lemmas.List.{append_assoc}
 use Rattle.kt_tree.specs.declared.tokens.Keyword.{Keyword}
 use Rattle.kt_tree.specs.declared.tokens.TokenKind.TheVariants as kind
 use Rattle.kt_lexer.specs.declared.shapes.Shape.{Shape}
-use Rattle.kt_lexer.specs.declared.shapes.Shape.TheVariants as shape
 use Rattle.kt_lexer.specs.Lexemes as lexemes
 use Rattle.kt_lexer.specs.Lexemes.{first, AllPass, is_letter, is_digit, is_word, between, IsWord, IsNameText, IsDigits}
-use Rattle.kt_lexer.specs.Texts.{Lexeme, of_kind, blank}
+use Rattle.kt_lexer.specs.Texts.{Lexeme, of_kind}
 use Rattle.kt_lexer.specs.Scanning.{Found, behind, passed, lexeme_of, keyword_of, word_shape, behind_safe_as, safe_as_or, word_at, behind_number, numbered, number_at, ordinary_at}
 use Rattle.kt_lexer.proofs.Cases.{at, both}
-use Rattle.kt_lexer.proofs.Found.{passed_is, keyword_written, keyword_known, safe_as_is, letter_word}
+use Rattle.kt_lexer.proofs.Found.{passed_is, keyword_written, keyword_known, safe_as_is}
 
 -- the lexeme, which these characters spell before the rest, or one that goes further
 abbrev pub Reaches : List ℕ → List ℕ → Lexeme → Found → Type 0

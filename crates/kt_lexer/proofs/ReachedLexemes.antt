@@ -1,7 +1,6 @@
 -- Where the front of a text spells a lexeme, a shape is found: that of the lexeme, or one that goes further.
-use Rattle.std.proofs.Common.{◌≡◌, ℕ, ◌+◌, ◌<◌, ◌≤◌, Bool, true, false, cond, ◌&&◌, not, ◌⊎◌, inl, inr, List, [], ◌∷◌, ◌++◌, Option, None, Some, length, rules, refl, sym, ap, subst, ◌∙◌, arith}
+use Rattle.std.proofs.Common.{◌≡◌, ℕ, ◌<◌, Bool, true, cond, inl, inr, List, [], ◌∷◌, ◌++◌, Option, None, Some, length, refl, sym, ap, subst, ◌∙◌, arith}
 use Rattle.std.specs.Prelude.{◌==◌}
-use Rattle.std.proofs.lemmas.List.{append_assoc, length-append}
 use Rattle.kt_base.specs.Text.{utf16_of}
 use Rattle.kt_tree.specs.declared.tokens.Keyword.{Keyword}
 use Rattle.kt_tree.specs.declared.tokens.Keyword.TheVariants as word
@@ -13,7 +12,7 @@ use Rattle.kt_lexer.specs.declared.shapes.Shape.TheVariants as shape
 use Rattle.kt_lexer.specs.Lexemes as lexemes
 use Rattle.kt_lexer.specs.Lexemes.{first, AllPass, is_letter, is_word, is_run, IsOrdinary, IsInString, IsBlank, IsWord, IsNameText, IsEscape}
 use Rattle.kt_lexer.specs.Texts.{Lexeme, of_kind, blank, IsLexeme, ordinary, between_tokens, inside}
-use Rattle.kt_lexer.specs.Scanning.{Found, behind, passed, lexeme_of, keyword_of, part_before, part_at, dollar_at, string_escape, escape_at, string_part_at, ordinary_at, shape_at}
+use Rattle.kt_lexer.specs.Scanning.{behind, passed, keyword_of, part_before, part_at, dollar_at, string_escape, string_part_at, ordinary_at, shape_at}
 use Rattle.kt_lexer.proofs.Cases.{at}
 use Rattle.kt_lexer.proofs.Found.{passed_is, keyword_known, letter_word}
 use Rattle.kt_lexer.proofs.Reached.{Reaches, behind_all, behind_none, behind_some, behind_or, name_is_none, name_reached, keyword_reached, number_reached, long_reached}

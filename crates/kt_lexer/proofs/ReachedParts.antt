@@ -1,19 +1,18 @@
 -- Literals, comments and signs at the front of a text are found, or something longer is.
-use Rattle.std.proofs.Common.{◌≡◌, ℕ, zero, suc, ◌+◌, ◌-◌, ◌<◌, ◌≤◌, Bool, true, false, cond, ◌||◌, ◌&&◌, not, ◌⊎◌, inl, inr, List, [], ◌∷◌, ◌++◌, Option, None, Some, length, drop, refl, sym, ap, subst, ◌∙◌, arith}
+use Rattle.std.proofs.Common.{◌≡◌, ℕ, zero, suc, ◌+◌, ◌-◌, ◌<◌, ◌≤◌, Bool, true, false, cond, ◌&&◌, not, inl, inr, List, [], ◌∷◌, ◌++◌, Option, None, Some, length, drop, refl, sym, ap, subst, ◌∙◌, arith}
 use Rattle.std.specs.Prelude.{◌==◌}
 use Rattle.std.specs.Option.{option_map}
-use Rattle.std.proofs.lemmas.Bool.{eqb-true, ne_eqb}
-use Rattle.std.proofs.lemmas.List.{append_assoc, length-append}
+use Rattle.std.proofs.lemmas.Bool.{ne_eqb}
+use Rattle.std.proofs.lemmas.List.{append_assoc}
 use Rattle.kt_tree.specs.declared.tokens.Sign.{Sign}
 use Rattle.kt_tree.specs.declared.tokens.Sign.TheVariants as sign
 use Rattle.kt_tree.specs.declared.tokens.TokenKind.TheVariants as kind
-use Rattle.kt_lexer.specs.declared.shapes.Shape.{Shape}
 use Rattle.kt_lexer.specs.declared.shapes.Shape.TheVariants as shape
 use Rattle.kt_lexer.specs.Lexemes as lexemes
 use Rattle.kt_lexer.specs.Lexemes.{first, begins, AllPass, is_plain, is_hexadecimal, is_word, IsSimpleEscape, IsEscape, simple, by_digits, IsCommentRest, closed, nested, more, AtLineEnd, IsToLineEnd, here, there, sign_text, may_follow}
-use Rattle.kt_lexer.specs.Texts.{Lexeme, of_kind, blank}
-use Rattle.kt_lexer.specs.Scanning.{Found, lexeme_of, simple_escape, four_digits, simple_or, escape_at, closed_character, escaped_character, character_at, at_line_end, line_rest, opens_comment, closes_comment, comment_rest, blank_before, double_sign, single_sign, single_at, double_or, sign_at, slash_at, behind_is, exclamation_at, word_at, ordinary_at}
-use Rattle.kt_lexer.proofs.Cases.{at, both, either}
+use Rattle.kt_lexer.specs.Texts.{of_kind, blank}
+use Rattle.kt_lexer.specs.Scanning.{Found, simple_escape, four_digits, escape_at, escaped_character, character_at, at_line_end, line_rest, opens_comment, closes_comment, comment_rest, blank_before, double_sign, single_sign, double_or, sign_at, slash_at, behind_is, exclamation_at, word_at, ordinary_at}
+use Rattle.kt_lexer.proofs.Cases.{at}
 use Rattle.kt_lexer.proofs.FoundComments.{line_end_is, line_end_test, comment_nonempty}
 use Rattle.kt_lexer.proofs.Reached.{Reaches}
 

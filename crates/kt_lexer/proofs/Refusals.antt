@@ -1,7 +1,6 @@
 -- Refusals of a source.
-use Rattle.std.proofs.Common.{◌≡◌, ℕ, ◌<◌, ◌≤◌, List, ◌⊎◌, Result, Ok, Err, length, take, refl, sym, ap, subst, ◌∙◌, arith}
+use Rattle.std.proofs.Common.{◌≡◌, ℕ, ◌<◌, ◌≤◌, List, Result, Err, length, sym, ap, subst, ◌∙◌, arith}
 use Rattle.std.specs.Str.{IsUtf8, chars}
-use Rattle.std.specs.Str.Lossy.{utf8_valid_len}
 use Rattle.kt_base.specs.declared.refusals.Pos.{Pos}
 use Rattle.kt_base.specs.declared.refusals.Refusal.{Refusal}
 use Rattle.kt_base.specs.declared.refusals.Kind.TheVariants as stage

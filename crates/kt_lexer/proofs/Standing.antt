@@ -1,6 +1,6 @@
 -- Where the lexer stands in a text: what is still to come decides what the text has.
-use Rattle.std.proofs.Common.{◌≡◌, ℕ, ◌+◌, not, ◌<◌, ◌≤◌, Bool, true, false, ◌⊎◌, inl, inr, List, [], ◌∷◌, ◌++◌, Option, None, Some, Result, Err, length, refl, sym, ap, subst, ◌∙◌, arith}
-use Rattle.std.proofs.lemmas.List.{append_assoc, append-nil, length-append}
+use Rattle.std.proofs.Common.{◌≡◌, ℕ, ◌+◌, not, ◌<◌, Bool, true, false, inl, inr, List, [], ◌∷◌, ◌++◌, None, Some, Result, Err, length, refl, sym, ap, subst, ◌∙◌, arith}
+use Rattle.std.proofs.lemmas.List.{append_assoc, length-append}
 use Rattle.kt_base.specs.declared.refusals.Pos.{Pos}
 use Rattle.kt_base.specs.declared.refusals.Refusal.{Refusal}
 use Rattle.kt_base.specs.declared.refusals.Kind.TheVariants as stage

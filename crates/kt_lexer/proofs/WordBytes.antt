@@ -1,10 +1,8 @@
 -- Letters, digits and `_` are ASCII.
-use Rattle.std.proofs.Common.{◌≡◌, ℕ, zero, suc, ◌<◌, ◌≤◌, Bool, true, ◌||◌, ◌&&◌, List, [], ◌∷◌, ◌⊎◌, ⊎_elim, arith}
-use Rattle.std.specs.Prelude.{◌==◌}
-use Rattle.std.specs.List.{slice_index}
+use Rattle.std.proofs.Common.{◌≡◌, ℕ, zero, suc, ◌<◌, true, List, [], ◌∷◌, ⊎_elim, arith}
 use Rattle.std.specs.Str.{IsAscii}
 use Rattle.std.proofs.lemmas.Bool.{eqb-true, leb-true}
-use Rattle.kt_lexer.specs.Lexemes.{AllPass, between, is_word, is_letter, is_digit}
+use Rattle.kt_lexer.specs.Lexemes.{AllPass, between, is_word}
 use Rattle.kt_lexer.proofs.Cases.{either, both}
 
 below : (low high c : ℕ) → between low high c ≡ true → high < 128 → c < 128

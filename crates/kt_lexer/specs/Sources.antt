@@ -1,5 +1,5 @@
 -- The tokens of a source, which is bytes: whether they are a text, and at which place they aren't.
-use Rattle.std.specs.Prelude.{◌≡◌, ℕ, ◌<◌, ◌≤◌, List, take, length}
+use Rattle.std.specs.Prelude.{ℕ, ◌<◌, ◌≤◌, List, take, length}
 use Rattle.std.specs.Str.{IsUtf8, chars}
 use Rattle.std.specs.Str.Lossy.{utf8_valid_len}
 use Rattle.kt_base.specs.declared.refusals.Pos.{Pos}

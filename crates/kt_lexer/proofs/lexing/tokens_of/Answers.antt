@@ -1,5 +1,5 @@
-use Rattle.std.proofs.Common.{◌≡◌, ◌+◌, ◌<◌, Some, None, ◌++◌, inl, length, sym, ap, subst, ◌∙◌, arith}
-use Rattle.kt_lexer.specs.Texts.{in_string, AreTokensOf, IsLexRefusedAt}
+use Rattle.std.proofs.Common.{◌≡◌, Some, None, inl, length, sym, ap, subst, ◌∙◌, arith}
+use Rattle.kt_lexer.specs.Texts.{in_string, AreTokensOf}
 use Rattle.kt_lexer.specs.Scanning.{lexeme_of, NamesAreWords, shape_at}
 use Rattle.kt_lexer.proofs.Standing.{stands_next, refusal_at, refused_is, ended_tokens_are, ended_only, ended_breaks, refused_here, refused_only, refused_no_tokens, found_names, found_shorter, found_less}
 use Rattle.kt_lexer.proofs.lexing.tokens_of.Goals as goal

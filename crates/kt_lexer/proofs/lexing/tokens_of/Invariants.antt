@@ -1,4 +1,4 @@
-use Rattle.std.proofs.Common.{◌≡◌, ◌+◌, ◌≤◌, length}
+use Rattle.std.proofs.Common.{◌+◌, ◌≤◌, length}
 use Rattle.kt_lexer.proofs.Standing.{Stands}
 use Rattle.kt_lexer.proofs.lexing.tokens_of.Given as goal
 

@@ -1,5 +1,4 @@
-use Rattle.std.proofs.Common.{◌≡◌, Err, sym, ap, ◌∙◌}
-use Rattle.kt_base.specs.declared.refusals.FrontErr.TheVariants as front_err
+use Rattle.std.proofs.Common.{Err, sym, ap, ◌∙◌}
 use Rattle.kt_lexer.proofs.Refusals.{broken_within, broken_at_end}
 use Rattle.kt_lexer.proofs.sources.broken_characters.Goals as goal
 use Rattle.kt_lexer.proofs.sources.broken_characters.Goals.{in-Ok, in-Err}

@@ -1,10 +1,10 @@
-use Rattle.std.proofs.Common.{rules, ◌≡◌, List, refl, sym, ap, ◌∙◌}
+use Rattle.std.proofs.Common.{rules, ap, ◌∙◌}
 use Rattle.std.specs.Prelude.{◌==◌, find}
 use Rattle.std.specs.Cmp.Lexicographic.{pointwise}
 use Rattle.std.proofs.lemmas.Iterator.{YieldsList-from_slice}
 use Rattle.std.proofs.lemmas.Iterator.Search.{find_from_yields_List}
 use Rattle.kt_lexer.specs.Lexemes.{keyword_text}
-use Rattle.kt_lexer.specs.Scanning.{keywords, keyword_of}
+use Rattle.kt_lexer.specs.Scanning.{keyword_of}
 use Rattle.kt_lexer.proofs.words.keyword_of.Goals as goal
 
 pub returns : goal.returns
