@@ -7,14 +7,14 @@ use kt_base::{Name, Pos, Text16};
 
 /// A token, and the place of its first character. The last token of a text is [`TokenKind::End`], at the place of the
 /// end of the text.
-#[derive(Drop)]
+#[derive(Clone, Debug, Drop, PartialEq, Eq)]
 pub struct Token {
     pub kind: TokenKind,
     pub pos: Pos,
 }
 
 /// What a token is.
-#[derive(Drop)]
+#[derive(Clone, Debug, Drop, PartialEq, Eq)]
 pub enum TokenKind {
     /// A name that is no keyword. A [`SoftKeyword`] is one, and is told by its spelling.
     Identifier(Name),
