@@ -1,0 +1,10 @@
+mod Stacks
+mod Grown
+mod Parts
+mod Short
+mod Pooled
+mod Written
+mod Found
+mod Unique
+mod Read
+mod Walks

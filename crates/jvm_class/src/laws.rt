@@ -1,0 +1,13 @@
+//! Laws of the definitions, each the contract of a function that does nothing.
+
+ghost use Rattle.jvm_class.specs.Laws.{OneClass, OneCode};
+
+/// Code has one class file.
+pub fn one_class()
+    ensures { OneClass }
+{}
+
+/// Bytes are the class file of one list of steps at most.
+pub fn one_code()
+    ensures { OneCode }
+{}
