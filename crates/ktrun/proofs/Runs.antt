@@ -1,12 +1,14 @@
 -- What the clauses of a run stand on.
-use Rattle.std.proofs.Common.{◌≡◌, ℕ, ℤ, List, [], ◌∷◌, ◌++◌, length, map, Option, None, Some, Result, Ok, Err, refl, sym, ap, subst, ◌∙◌}
+use Rattle.std.proofs.Common.{◌≡◌, ◌≤◌, ℕ, ℤ, List, [], ◌∷◌, ◌++◌, length, map, Option, None, Some, Result, Ok, Err, refl, sym, ap, subst, ◌∙◌, arith}
 use Rattle.std.proofs.Math.ListN.{replicate}
 use Rattle.kt_base.specs.declared.stack_code.Plain.{Plain}
 use Rattle.kt_base.specs.declared.events.End.TheVariants as end
 use Rattle.kt_base.specs.declared.events.Halt.TheVariants as halt
 use Rattle.kt_base.specs.StackCode.{Stacked, Prints}
 use Rattle.kt_parser.specs.Programs.{Program, IsFirst, values_of}
+use Rattle.std.specs.Prelude.{is_some}
 use Rattle.std.specs.Result.{IfOk}
+use Rattle.jvm_class.specs.Instructions.{IsPlainCode}
 use Rattle.kt_outside.specs.Held.{Contents}
 use Rattle.ktrun.specs.declared.running.Stop.{Stop}
 use Rattle.ktrun.specs.declared.running.Finished.{Finished}
@@ -25,6 +27,10 @@ prints_one code values others p q =
     let states : Some (record { stack = []; printed = values }) ≡ Some (record { stack = []; printed = others }) = sym p ∙ q in
     let same : ◌≡◌ {A = Stacked} (record { stack = []; printed = values }) (record { stack = []; printed = others }) = cc in
     ap (λ (s : Stacked). s.printed) same
+
+-- the code of a text can be a class file: it runs, and is short
+pub plain_code : (source : List ℕ) (p : Program) (code : List Plain) → IsFirst source p → length code ≤ length source → Prints code (values_of p) → IsPlainCode code
+plain_code source p code is short prints = record { steps = omega (arith, is.short, short); runs = ap is_some prints }
 
 -- the run of a program that prints these values
 pub run_ends : (source : List ℕ) (p : Program) → IsFirst source p → (choices text : List ℕ) → text ≡ text_of (values_of p) → choices ≡ map (λ _. 0) (values_of p)

@@ -2,11 +2,13 @@
 
 ghost use Rattle.std.specs.Prelude.{◌≡◌, ◌≢◌, ℤ, List, [], map, Err, IfOk};
 ghost use Rattle.kt_base.specs.StackCode.{Prints};
+ghost use Rattle.jvm_class.specs.Instructions.{IsPlainCode};
 ghost use Rattle.kt_outside.specs.Faults.{MayAdd, Adds};
 ghost use Rattle.ktrun.specs.FirstRuns.{Ends, IsOfFirst, text_of};
 ghost use Rattle.ktrun.specs.Statuses.{Ran, IsForeign};
 
 use crate::machine::{printed_by, text_of};
+use jvm_class::{PlainErr, read_plain, write_plain};
 use kt_base::{NoMemory, Plain};
 use kt_outside::{FileErr, Files};
 use kt_parser::{FirstErr, parse_first};
@@ -87,7 +89,21 @@ fn run_text(alloc: Global, source: &[u8]) -> Result<Finished, Stop>
     ensures no_read { result ≢ Err Stop.ReadFault }
 {
     let code = parse_first(alloc, source)?;
-    Ok(run_code(alloc, code.as_slice())?)
+    let read = through_class(alloc, code.as_slice())?;
+    Ok(run_code(alloc, read.as_slice())?)
+}
+
+/// The code, written as a class file and read back.
+fn through_class(alloc: Global, code: &[Plain]) -> Result<Vec<Plain>, NoMemory>
+    requires { IsPlainCode code.now }
+    ensures { IfOk result (λ read. read.items ≡ code.now) }
+{
+    let class = write_plain(alloc, code)?;
+    match read_plain(alloc, class.as_slice()) {
+        Ok(read) => Ok(read),
+        Err(PlainErr::NoMemory) => Err(NoMemory),
+        Err(PlainErr::NotPlain) => unreachable!(),
+    }
 }
 
 /// Runs the code of a program.
