@@ -1,9 +1,9 @@
 //! Bytes to code, in two passes (JVMS SE 8 §4.7.3, §4.9.1).
 
 ghost use Rattle.std.specs.Prelude.{◌≡◌, ◌<◌, ◌^◌, ℕ, List, length, Ok, IfOk, IfErr};
-ghost use Rattle.jvm_code.specs.Table.{Row};
-ghost use Rattle.jvm_code.specs.Table.{row_of};
-ghost use Rattle.jvm_code.specs.Reading.{Gives, row_at};
+ghost use Rattle.jvm_instr.specs.Table.{Row};
+ghost use Rattle.jvm_instr.specs.Table.{row_of};
+ghost use Rattle.jvm_instr.specs.Reading.{Gives, row_at};
 ghost use Rattle.jvm_code.specs.Spelling.{spelling};
 ghost use Rattle.jvm_code.specs.Decoding.{Decodes, rows, placed, rows_at, decode_of, IsLaid};
 ghost use Rattle.jvm_code.specs.Refusals.{WhyNot};
