@@ -7,12 +7,12 @@ ghost use Rattle.jvm_instr.specs.Reading.{Gives, wide_at, shaped_at, row_at};
 use crate::fault::Fault;
 use crate::instr::Instr;
 use crate::numbers::{byte_of, count_of, far_of, near_of, only_of, u16_of};
+use crate::switches::{lookup_switch_of, table_switch_of};
 use jvm_opcodes::{
     Arithmetic, ArrayLoad, ArrayStore, Bitwise, Conversion, Division, FieldOp, FixedLoad,
     FixedStore, IntConstant, IntTest, InvokeOp, LoadOp, LongConstant, Negation, NullTest,
     ReferenceTest, ReturnOp, Shift, StackOp, StoreOp, ZeroTest,
 };
-use crate::switches::{lookup_switch_of, table_switch_of};
 use std::alloc::Global;
 
 /// The rest of a wide form, behind its opcode.
