@@ -148,39 +148,83 @@ fn jump_to(alloc: Global, target: u32) -> Result<Vec<(u32, Instr)>, AllocError> 
 
 /// A jump at an offset to the front, behind instructions of one byte.
 fn jump_back(alloc: Global, from: u32) -> Result<Vec<(u32, Instr)>, AllocError> {
-    let mut code = Vec::new(alloc);
-    for at in 0..from {
-        code.push((at, Instr::Lcmp))?;
+    behind(alloc, from, Instr::Goto { target: 0 })
+}
+
+/// Asserts that code is laid, and that its bytes are decoded as it; gives the bytes.
+fn both_ways(rt: &impl Abort, alloc: Global, code: &[(u32, Instr)]) -> Result<Vec<u8>, Fail> {
+    assert!(rt; laid(code));
+    let bytes = encode(alloc, code)?;
+    assert!(rt; bytes.len() < 50000);
+    let found = decode(alloc, &bytes)?;
+    assert!(rt; found.as_slice() == code);
+    Ok(bytes)
+}
+
+#[test]
+fn reach_forth(rt: HostRuntime) -> Result<(), Fail> {
+    let bytes = both_ways(&rt, rt.alloc(), &jump_to(rt.alloc(), 32767)?)?;
+    let found = bytes.as_slice().get(0..3);
+    assert_eq!(rt; found, Some([0xa7, 0x7f, 0xff].as_slice()));
+    assert!(rt; !laid(&jump_to(rt.alloc(), 32768)?));
+    Ok(())
+}
+
+#[test]
+fn reach_back(rt: HostRuntime) -> Result<(), Fail> {
+    let bytes = both_ways(&rt, rt.alloc(), &jump_back(rt.alloc(), 32768)?)?;
+    let found = bytes.as_slice().get(32768..32771);
+    assert_eq!(rt; found, Some([0xa7, 0x80, 0x00].as_slice()));
+    assert!(rt; !laid(&jump_back(rt.alloc(), 32769)?));
+    Ok(())
+}
+
+/// A table of 300 targets from -7 to 292, behind instructions of one byte: each number goes to the front.
+fn many_targets(alloc: Global, at: u32) -> Result<Vec<(u32, Instr)>, AllocError> {
+    let mut targets = Vec::new(alloc);
+    for _ in 0..300u32 {
+        targets.push(0)?;
     }
-    code.push((from, Instr::Goto { target: 0 }))?;
+    let table = TableSwitch {
+        default: 0,
+        low: -7,
+        targets,
+    };
+    behind(alloc, at, Instr::TableSwitch(table))
+}
+
+/// A look-up of the numbers from -7 to 292, behind instructions of one byte: each number goes to the front.
+fn many_pairs(alloc: Global, at: u32) -> Result<Vec<(u32, Instr)>, AllocError> {
+    let mut pairs = Vec::new(alloc);
+    for number in -7..293i32 {
+        pairs.push((number, 0))?;
+    }
+    let lookup = LookupSwitch { default: 0, pairs };
+    behind(alloc, at, Instr::LookupSwitch(lookup))
+}
+
+/// An instruction at an offset, behind instructions of one byte.
+fn behind(alloc: Global, at: u32, instr: Instr) -> Result<Vec<(u32, Instr)>, AllocError> {
+    let mut code = Vec::new(alloc);
+    for before in 0..at {
+        code.push((before, Instr::Lcmp))?;
+    }
+    code.push((at, instr))?;
     Ok(code)
 }
 
 #[test]
-fn reach(rt: HostRuntime) -> Result<(), Fail> {
-    let far = jump_to(rt.alloc(), 32767)?;
-    assert!(rt; laid(&far));
-    let bytes = encode(rt.alloc(), &far)?;
-    assert_eq!(rt;
-        bytes.as_slice().get(0..3),
-        Some([0xa7, 0x7f, 0xff].as_slice())
-    );
-    assert!(rt; bytes.len() < 50000);
-    assert_eq!(rt;
-        decode(rt.alloc(), &bytes)?.as_slice() == far.as_slice(),
-        true
-    );
-    let too_far = jump_to(rt.alloc(), 32768)?;
-    assert!(rt; !laid(&too_far));
-    let back = jump_back(rt.alloc(), 32768)?;
-    assert!(rt; laid(&back));
-    let bytes = encode(rt.alloc(), &back)?;
-    assert_eq!(rt;
-        bytes.as_slice().get(32768..32771),
-        Some([0xa7, 0x80, 0x00].as_slice())
-    );
-    let too_far = jump_back(rt.alloc(), 32769)?;
-    assert!(rt; !laid(&too_far));
+fn many_entries_at_each_padding(rt: HostRuntime) -> Result<(), Fail> {
+    for at in 0..4u32 {
+        let bytes = both_ways(&rt, rt.alloc(), &many_targets(rt.alloc(), at)?)?;
+        assert_eq!(rt; bytes.len(), 1216);
+        let ends = bytes.as_slice().get(8..16);
+        assert_eq!(rt; ends, Some(b"\xff\xff\xff\xf9\x00\x00\x01\x24".as_slice()));
+        let bytes = both_ways(&rt, rt.alloc(), &many_pairs(rt.alloc(), at)?)?;
+        assert_eq!(rt; bytes.len(), 2412);
+        let count = bytes.as_slice().get(8..12);
+        assert_eq!(rt; count, Some(b"\x00\x00\x01\x2c".as_slice()));
+    }
     Ok(())
 }
 
