@@ -162,21 +162,13 @@ fn instr_behind(alloc: Global, at: u32, code: u8, rest: &[u8]) -> Result<(Instr,
         0x01 => Ok((Instr::AconstNull, rest)),
         0x10 => {
             let (n, rest) = byte_of(rest)?;
-            Ok((
-                Instr::Bipush {
-                    value: n.cast_signed(),
-                },
-                rest,
-            ))
+            let value = n.cast_signed();
+            Ok((Instr::Bipush { value }, rest))
         }
         0x11 => {
             let (n, rest) = u16_of(rest)?;
-            Ok((
-                Instr::Sipush {
-                    value: n.cast_signed(),
-                },
-                rest,
-            ))
+            let value = n.cast_signed();
+            Ok((Instr::Sipush { value }, rest))
         }
         0x13 => {
             let (index, rest) = u16_of(rest)?;

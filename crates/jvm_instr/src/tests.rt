@@ -158,8 +158,8 @@ fn distances() -> [(u32, &'static [u8], &'static str); 5] {
     ]
 }
 
-/// Switches behind each of the four paddings, with none or one and with several entries.
-fn switches() -> [(u32, &'static [u8], &'static str); 16] {
+/// Switches behind each of the four paddings, with one target or no pair, and two with several.
+fn switches() -> [(u32, &'static [u8], &'static str); 10] {
     [
         (
             0,
@@ -168,18 +168,8 @@ fn switches() -> [(u32, &'static [u8], &'static str); 16] {
         ),
         (
             0,
-            b"\xaa\x00\x00\x00\x00\x00\x00\x01\xff\xff\xff\xff\x00\x00\x00\x02\x00\x00\x00\x00\x00\x00\x00\x00\x00\x00\x00\x00\x00\x00\x00\x00",
-            "TableSwitch(TableSwitch { default: 1, low: -1, targets: [0, 0, 0, 0] })",
-        ),
-        (
-            0,
             b"\xab\x00\x00\x00\x00\x00\x00\x00\x00\x00\x00\x00",
             "LookupSwitch(LookupSwitch { default: 0, pairs: [] })",
-        ),
-        (
-            0,
-            b"\xab\x00\x00\x00\x00\x00\x00\x00\x00\x00\x00\x03\x80\x00\x00\x00\x00\x00\x00\x00\x00\x00\x00\x07\x00\x00\x00\x09\x7f\xff\xff\xff\x00\x00\x00\x00",
-            "LookupSwitch(LookupSwitch { default: 0, pairs: [(-2147483648, 0), (7, 9), (2147483647, 0)] })",
         ),
         (
             1,
@@ -188,18 +178,8 @@ fn switches() -> [(u32, &'static [u8], &'static str); 16] {
         ),
         (
             1,
-            b"\xaa\x00\x00\x00\x00\x00\x01\xff\xff\xff\xff\x00\x00\x00\x02\xff\xff\xff\xff\xff\xff\xff\xff\xff\xff\xff\xff\xff\xff\xff\xff",
-            "TableSwitch(TableSwitch { default: 2, low: -1, targets: [0, 0, 0, 0] })",
-        ),
-        (
-            1,
             b"\xab\x00\x00\xff\xff\xff\xff\x00\x00\x00\x00",
             "LookupSwitch(LookupSwitch { default: 0, pairs: [] })",
-        ),
-        (
-            1,
-            b"\xab\x00\x00\xff\xff\xff\xff\x00\x00\x00\x03\x80\x00\x00\x00\xff\xff\xff\xff\x00\x00\x00\x07\x00\x00\x00\x09\x7f\xff\xff\xff\xff\xff\xff\xff",
-            "LookupSwitch(LookupSwitch { default: 0, pairs: [(-2147483648, 0), (7, 10), (2147483647, 0)] })",
         ),
         (
             2,
@@ -208,18 +188,8 @@ fn switches() -> [(u32, &'static [u8], &'static str); 16] {
         ),
         (
             2,
-            b"\xaa\x00\x00\x00\x00\x01\xff\xff\xff\xff\x00\x00\x00\x02\xff\xff\xff\xfe\xff\xff\xff\xfe\xff\xff\xff\xfe\xff\xff\xff\xfe",
-            "TableSwitch(TableSwitch { default: 3, low: -1, targets: [0, 0, 0, 0] })",
-        ),
-        (
-            2,
             b"\xab\x00\xff\xff\xff\xfe\x00\x00\x00\x00",
             "LookupSwitch(LookupSwitch { default: 0, pairs: [] })",
-        ),
-        (
-            2,
-            b"\xab\x00\xff\xff\xff\xfe\x00\x00\x00\x03\x80\x00\x00\x00\xff\xff\xff\xfe\x00\x00\x00\x07\x00\x00\x00\x09\x7f\xff\xff\xff\xff\xff\xff\xfe",
-            "LookupSwitch(LookupSwitch { default: 0, pairs: [(-2147483648, 0), (7, 11), (2147483647, 0)] })",
         ),
         (
             3,
@@ -228,13 +198,13 @@ fn switches() -> [(u32, &'static [u8], &'static str); 16] {
         ),
         (
             3,
-            b"\xaa\x00\x00\x00\x01\xff\xff\xff\xff\x00\x00\x00\x02\xff\xff\xff\xfd\xff\xff\xff\xfd\xff\xff\xff\xfd\xff\xff\xff\xfd",
-            "TableSwitch(TableSwitch { default: 4, low: -1, targets: [0, 0, 0, 0] })",
-        ),
-        (
-            3,
             b"\xab\xff\xff\xff\xfd\x00\x00\x00\x00",
             "LookupSwitch(LookupSwitch { default: 0, pairs: [] })",
+        ),
+        (
+            2,
+            b"\xaa\x00\x00\x00\x00\x01\xff\xff\xff\xff\x00\x00\x00\x02\xff\xff\xff\xfe\xff\xff\xff\xfe\xff\xff\xff\xfe\xff\xff\xff\xfe",
+            "TableSwitch(TableSwitch { default: 3, low: -1, targets: [0, 0, 0, 0] })",
         ),
         (
             3,
