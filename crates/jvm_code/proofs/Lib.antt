@@ -1,16 +1,6 @@
-pub mod Writes
-pub mod Loops
 pub mod Starts
 pub mod Passes
-pub mod Fields
-pub mod Distances
-pub mod Shapes
-pub mod Instructions
+pub mod Following
 pub mod Lists
 pub mod Theorem
-pub mod Steady
 pub mod Whys
-pub mod Rows
-pub mod Sizes
-pub mod Named
-pub mod Tells

@@ -4,13 +4,13 @@ ghost use Rattle.std.specs.Prelude.{◌≡◌, List, IfOk};
 ghost use Rattle.jvm_code.specs.Spelling.{spelling};
 ghost use Rattle.jvm_code.specs.Decoding.{rows, IsLaid};
 
-use crate::instr::Instr;
-use crate::writing::put_instr;
-use std::alloc::{AllocError, Global};
+use jvm_instr::{Instr, put_instr};
+use kt_base::NoMemory;
+use std::alloc::Global;
 
 /// The bytes of code that is `laid`, as the code array of a method has them (JVMS SE 8 §4.7.3): numbers big-endian,
 /// targets by their distances, switches padded by their offsets. Fails only where memory runs out.
-pub fn encode(alloc: Global, code: &[(u32, Instr)]) -> Result<Vec<u8>, AllocError>
+pub fn encode(alloc: Global, code: &[(u32, Instr)]) -> Result<Vec<u8>, NoMemory>
     requires { IsLaid (rows code.now) }
     ensures { IfOk result (λ v. v.items ≡ spelling (rows code.now)) }
 {

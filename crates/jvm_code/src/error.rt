@@ -1,8 +1,9 @@
 //! Why bytes are no code.
 
 ghost use Rattle.std.specs.Prelude.{◌≡◌};
-ghost use Rattle.jvm_code.specs.declared.error.CodeErr.TheVariants.{NoMemory};
+ghost use Rattle.jvm_code.specs.declared.error.CodeErr.TheVariants as code_err;
 
+use kt_base::NoMemory;
 use std::alloc::{AllocError, AllocFailed};
 use thiserror::Error;
 
@@ -23,8 +24,16 @@ pub enum CodeErr {
     NoMemory,
 }
 
+impl From<NoMemory> for CodeErr {
+    ghost from_gives = { λ _ e. e ≡ code_err.NoMemory };
+
+    fn from(_: NoMemory) -> CodeErr {
+        CodeErr::NoMemory
+    }
+}
+
 impl From<AllocError> for CodeErr {
-    ghost from_gives = { λ _ e. e ≡ NoMemory };
+    ghost from_gives = { λ _ e. e ≡ code_err.NoMemory };
 
     fn from(_e: AllocError) -> CodeErr {
         CodeErr::NoMemory
@@ -32,7 +41,7 @@ impl From<AllocError> for CodeErr {
 }
 
 impl<T: Drop> From<AllocFailed<T>> for CodeErr {
-    ghost from_gives = { λ _ e. e ≡ NoMemory };
+    ghost from_gives = { λ _ e. e ≡ code_err.NoMemory };
 
     fn from(_e: AllocFailed<T>) -> CodeErr {
         CodeErr::NoMemory

@@ -1,33 +1,24 @@
-//! JVM instructions and their bytes, both ways (JVMS SE 8 §4.9, §6.5).
+//! JVM code: a list of instructions, each with its offset, and its bytes, both ways (JVMS SE 8 §4.7.3, §4.9).
 #![tactic(auto)]
 
 mod decoding;
 mod encoding;
 mod error;
-mod fault;
-mod instr;
 mod laws;
 mod layout;
-mod numbers;
-mod opcodes;
-mod reading;
-mod switches;
 mod targets;
-mod writing;
 
 pub use decoding::decode;
 pub use encoding::encode;
 pub use error::CodeErr;
-pub use instr::{Instr, LookupSwitch, TableSwitch};
-pub use laws::{
-    decoded_is_encoded, encoded_is_decoded, row_tells_instruction, spelling_has_one_list,
-};
-pub use layout::laid;
-pub use opcodes::{
+pub use jvm_instr::{Instr, LookupSwitch, TableSwitch, row_tells_instruction};
+pub use jvm_opcodes::{
     Arithmetic, ArrayLoad, ArrayStore, Bitwise, Conversion, Division, FieldOp, FixedLoad,
     FixedStore, IntConstant, IntTest, InvokeOp, LoadOp, LongConstant, Negation, NullTest,
     ReferenceTest, ReturnOp, Shift, StackOp, StoreOp, ZeroTest,
 };
+pub use laws::{decoded_is_encoded, encoded_is_decoded, spelling_has_one_list};
+pub use layout::laid;
 
 #[cfg(test)]
 mod tests;

@@ -1,8 +1,9 @@
 use Rattle.std.proofs.Common.{◌++◌, take, ap, sym, ◌∙◌}
-use Rattle.jvm_code.specs.Table.{row_of}
-use Rattle.jvm_code.specs.Spelling.{row_bytes, spelling}
+use Rattle.jvm_instr.specs.Table.{row_of}
+use Rattle.jvm_instr.specs.Spelling.{row_bytes}
+use Rattle.jvm_code.specs.Spelling.{spelling}
 use Rattle.jvm_code.specs.Decoding.{rows}
-use Rattle.jvm_code.proofs.Sizes.{spelling_more}
+use Rattle.jvm_code.proofs.Following.{spelling_more}
 use Rattle.jvm_code.proofs.encoding.encode.Goals as goal
 
 pub loop-item-preserved : goal.loop-item-preserved

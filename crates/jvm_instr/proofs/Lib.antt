@@ -1,0 +1,11 @@
+pub mod Writes
+pub mod Loops
+pub mod Fields
+pub mod Distances
+pub mod Shapes
+pub mod Instructions
+pub mod Steady
+pub mod Rows
+pub mod Lengths
+pub mod Named
+pub mod Tells
