@@ -197,11 +197,21 @@ fn tokens() -> [(&'static str, &'static str); 33] {
 fn tokens_of_texts(rt: HostRuntime) -> Result<(), Fail> {
     for (text, listing) in tokens() {
         assert_eq!(rt;
-            told(rt.alloc(), lex(rt.alloc(), text))?.as_str(),
+            told(rt.alloc(), lex_bytes(rt.alloc(), text.as_bytes()))?.as_str(),
             listing,
             "of {text}"
         );
     }
+    Ok(())
+}
+
+#[test]
+fn tokens_of_a_text(rt: HostRuntime) -> Result<(), Fail> {
+    let outcome = lex(rt.alloc(), "a\r\n");
+    assert_eq!(rt;
+        told(rt.alloc(), outcome)?.as_str(),
+        "1:1 name a, 1:2 line, 2:1 end, "
+    );
     Ok(())
 }
 
@@ -250,7 +260,7 @@ fn refusals() -> [(&'static str, &'static str); 35] {
 fn places_of_refusals(rt: HostRuntime) -> Result<(), Fail> {
     for (text, place) in refusals() {
         assert_eq!(rt;
-            told(rt.alloc(), lex(rt.alloc(), text))?.as_str(),
+            told(rt.alloc(), lex_bytes(rt.alloc(), text.as_bytes()))?.as_str(),
             place,
             "of {text}"
         );
