@@ -10,8 +10,8 @@ ghost use Rattle.kt_tree.specs.Tokens.{is_identifier, is_sign};
 ghost use Rattle.kt_type_parser.specs.Steps.{EachReads, ReadsAs, Tries, further};
 ghost use Rattle.std.specs.Prelude.{◌≡◌, IfOk, List, map};
 
-use kt_grammar::{ParseError, Tokens};
 use kt_base::{Name, NoMemory};
+use kt_grammar::{ParseError, Tokens};
 use kt_tree::{Sign, Token, TokenKind};
 use sqlite_items::Items;
 use std::alloc::Global;
@@ -56,14 +56,19 @@ pub fn name_of(alloc: Global, token: &Token) -> Result<Name, NoMemory>
 }
 
 /// Whether the next token is this sign. It is examined, and not taken.
+#[tactic(auto, using(crate::proofs::TypeSteps::ahead_seen, crate::proofs::TypeSteps::ahead_unseen, crate::proofs::TypeSteps::missed_rest))]
 pub fn sign_ahead(tokens: &mut Tokens<'_>, sign: Sign) -> bool
     ensures { Tries (parsers.ahead (is_sign sign) tokens.old) tokens.old result tokens.new }
 {
     let place = tokens.rest();
-    let is_next = tokens.sign(sign).is_some();
-    tokens.go_back(place);
-    tokens.refuse();
-    is_next
+    match tokens.sign(sign) {
+        Some(_) => {
+            tokens.go_back(place);
+            tokens.refuse();
+            true
+        }
+        None => false,
+    }
 }
 
 /// The item behind the comma that comes next, or the token that closes the list.

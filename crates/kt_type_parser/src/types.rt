@@ -13,7 +13,9 @@ ghost use Rattle.kt_type_parser.specs.Below.{ReadsBelow, suspend_ahead, only_one
 ghost use Rattle.std.specs.Prelude.{◌≡◌, map};
 
 use crate::nodes::{function, named, nullable, parenthesized};
-use crate::steps::{Node, comma_list, expect, expect_identifier, maybe_comma_list, name_of, sign_ahead};
+use crate::steps::{
+    Node, comma_list, expect, expect_identifier, maybe_comma_list, name_of, sign_ahead,
+};
 use kt_base::Name;
 use kt_grammar::{ParseError, Tokens};
 use kt_tree::{Sign, SoftKeyword, TypeReference};
@@ -30,7 +32,7 @@ impl Node for TypeReference {
 
 /// The parser of the types that a type holds, of at most `room` levels.
 #[derive(Clone, Copy)]
-struct TypesBelow<F> {
+pub struct TypesBelow<F> {
     alloc: Global,
     room: u32,
     read: F,
@@ -44,18 +46,36 @@ impl<F: Fn(Global, u32, &mut Tokens<'_>) -> Result<TypeReference, ParseError>> T
         (self.read)(self.alloc, self.room, tokens)
     }
 
-    fn several(&self, close: Sign, tokens: &mut Tokens<'_>) -> Result<Items<TypeReference>, ParseError>
+    fn several(
+        &self,
+        close: Sign,
+        tokens: &mut Tokens<'_>,
+    ) -> Result<Items<TypeReference>, ParseError>
         requires { ReadsBelow self.now.room (F.pre self.now.read) (F.post self.now.read) }
         ensures { ReadsAs (map type_tree) (readers.commas (is_sign close) (type_parser self.now.room) tokens.old) result tokens.new }
     {
-        comma_list(self.alloc, tokens, close, &|tokens: &mut Tokens<'_>| self.part(tokens))
+        comma_list(
+            self.alloc,
+            tokens,
+            close,
+            &|tokens: &mut Tokens<'_>| self.part(tokens),
+        )
     }
 
-    fn maybe_several(&self, close: Sign, tokens: &mut Tokens<'_>) -> Result<Items<TypeReference>, ParseError>
+    fn maybe_several(
+        &self,
+        close: Sign,
+        tokens: &mut Tokens<'_>,
+    ) -> Result<Items<TypeReference>, ParseError>
         requires { ReadsBelow self.now.room (F.pre self.now.read) (F.post self.now.read) }
         ensures { ReadsAs (map type_tree) (readers.maybe_commas (is_sign close) (type_parser self.now.room) tokens.old) result tokens.new }
     {
-        maybe_comma_list(self.alloc, tokens, close, &|tokens: &mut Tokens<'_>| self.part(tokens))
+        maybe_comma_list(
+            self.alloc,
+            tokens,
+            close,
+            &|tokens: &mut Tokens<'_>| self.part(tokens),
+        )
     }
 
     /// `'<' type (',' type)* '>'`
@@ -106,7 +126,12 @@ impl<F: Fn(Global, u32, &mut Tokens<'_>) -> Result<TypeReference, ParseError>> T
     }
 
     /// The result of a function type.
-    fn outcome(&self, suspends: bool, parameters: Items<TypeReference>, tokens: &mut Tokens<'_>) -> Result<TypeReference, ParseError>
+    fn outcome(
+        &self,
+        suspends: bool,
+        parameters: Items<TypeReference>,
+        tokens: &mut Tokens<'_>,
+    ) -> Result<TypeReference, ParseError>
         requires { ReadsBelow self.now.room (F.pre self.now.read) (F.post self.now.read) }
         ensures { ReadsAs type_tree (readers.result_type suspends (type_parser self.now.room) (map type_tree parameters) tokens.old) result tokens.new }
     {
@@ -126,7 +151,12 @@ impl<F: Fn(Global, u32, &mut Tokens<'_>) -> Result<TypeReference, ParseError>> T
     }
 
     /// Behind types in parentheses: a function type, or one type in parentheses.
-    fn behind_types(&self, types: Items<TypeReference>, tokens: &mut Tokens<'_>) -> Result<TypeReference, ParseError>
+    #[tactic(auto, using(crate::proofs::TypeSteps::reads_from, crate::proofs::TypeSteps::types_arrow, crate::proofs::TypeSteps::types_one, crate::proofs::TypeSteps::types_none))]
+    fn behind_types(
+        &self,
+        types: Items<TypeReference>,
+        tokens: &mut Tokens<'_>,
+    ) -> Result<TypeReference, ParseError>
         requires { ReadsBelow self.now.room (F.pre self.now.read) (F.post self.now.read) }
         ensures { ReadsAs type_tree (readers.behind_types (type_parser self.now.room) (map type_tree types) tokens.old) result tokens.new }
     {
@@ -187,15 +217,20 @@ fn suspends(tokens: &mut Tokens<'_>) -> bool
 }
 
 /// The one type of the list, where there is one alone.
+#[tactic(auto, using(crate::proofs::TypeSteps::only_last, crate::proofs::TypeSteps::only_none))]
 fn only(mut types: Items<TypeReference>) -> Option<TypeReference>
-    ensures { result ≡ only_one types.entry }
+    ensures { result ≡ only_one types }
 {
     let last = types.pop();
     if types.is_empty() { last } else { None }
 }
 
 /// `'?'?`
-fn maybe_nullable(alloc: Global, inner: TypeReference, tokens: &mut Tokens<'_>) -> Result<TypeReference, ParseError>
+fn maybe_nullable(
+    alloc: Global,
+    inner: TypeReference,
+    tokens: &mut Tokens<'_>,
+) -> Result<TypeReference, ParseError>
     ensures { ReadsAs type_tree (readers.maybe_nullable (type_tree inner) tokens.old) result tokens.new }
 {
     match tokens.sign(Sign::Question) {
@@ -205,7 +240,11 @@ fn maybe_nullable(alloc: Global, inner: TypeReference, tokens: &mut Tokens<'_>) 
 }
 
 /// A type of at most `room` levels.
-pub fn read_type(alloc: Global, room: u32, tokens: &mut Tokens<'_>) -> Result<TypeReference, ParseError>
+pub fn read_type(
+    alloc: Global,
+    room: u32,
+    tokens: &mut Tokens<'_>,
+) -> Result<TypeReference, ParseError>
     ensures { ReadsAs type_tree (type_parser room tokens.old) result tokens.new }
 {
     if room == 0 {
@@ -220,7 +259,11 @@ pub fn read_type(alloc: Global, room: u32, tokens: &mut Tokens<'_>) -> Result<Ty
 }
 
 /// Type arguments, each of at most `room` levels.
-pub fn type_arguments(alloc: Global, room: u32, tokens: &mut Tokens<'_>) -> Result<Items<TypeReference>, ParseError>
+pub fn type_arguments(
+    alloc: Global,
+    room: u32,
+    tokens: &mut Tokens<'_>,
+) -> Result<Items<TypeReference>, ParseError>
     ensures { ReadsAs (map type_tree) (readers.type_arguments (type_parser room) tokens.old) result tokens.new }
 {
     TypesBelow {
@@ -232,7 +275,11 @@ pub fn type_arguments(alloc: Global, room: u32, tokens: &mut Tokens<'_>) -> Resu
 }
 
 /// A name and its type arguments, each of at most `room` levels; without room there are none.
-pub fn named_type(alloc: Global, room: u32, tokens: &mut Tokens<'_>) -> Result<TypeReference, ParseError>
+pub fn named_type(
+    alloc: Global,
+    room: u32,
+    tokens: &mut Tokens<'_>,
+) -> Result<TypeReference, ParseError>
     ensures { ReadsAs type_tree (readers.named_type (some_levels room) (type_parser room) tokens.old) result tokens.new }
 {
     TypesBelow {
