@@ -43,7 +43,7 @@ fn answer(alloc: Global, letters: &[u8]) -> Result<Reading, Fail> {
     let mut cursor = Tokens::new(tokens.as_slice());
     match read_type(alloc, 200, &mut cursor) {
         Ok(_) => Ok(Reading::Read(cursor.rest().len())),
-        Err(ParseError::Refused) => Ok(Reading::Refused(tokens.len() - cursor.far())),
+        Err(ParseError::Refused) => Ok(Reading::Refused(tokens.len().saturating_sub(cursor.far()))),
         Err(ParseError::NoMemory) => Err(Fail::from(std::alloc::AllocError)),
     }
 }
