@@ -63,13 +63,29 @@ fn choice(alloc: Global) -> Result<Expression, NoMemory>
 }
 
 #[test]
-fn levels_of_nodes(rt: HostRuntime) -> Result<(), Fail> {
-    let alloc = rt.alloc();
-    let sum = sum(alloc)?;
-    assert_eq!(rt; sum.at, AT);
-    assert_eq!(rt; sum.levels(), 3);
-    assert_eq!(rt; string(alloc)?.levels(), 3);
-    assert_eq!(rt; repeated(alloc)?.levels(), 3);
-    assert_eq!(rt; choice(alloc)?.levels(), 3);
+fn levels_of_a_sum(rt: HostRuntime) -> Result<(), Fail> {
+    let built = sum(rt.alloc())?;
+    assert_eq!(rt; built.levels(), 3);
+    Ok(())
+}
+
+#[test]
+fn levels_of_a_string(rt: HostRuntime) -> Result<(), Fail> {
+    let built = string(rt.alloc())?;
+    assert_eq!(rt; built.levels(), 3);
+    Ok(())
+}
+
+#[test]
+fn levels_of_a_loop(rt: HostRuntime) -> Result<(), Fail> {
+    let built = repeated(rt.alloc())?;
+    assert_eq!(rt; built.levels(), 3);
+    Ok(())
+}
+
+#[test]
+fn levels_of_a_choice(rt: HostRuntime) -> Result<(), Fail> {
+    let built = choice(rt.alloc())?;
+    assert_eq!(rt; built.levels(), 3);
     Ok(())
 }
