@@ -2,9 +2,9 @@
 #![tactic(auto)]
 
 ghost use Rattle.kt_outside.specs.Faults.{Rose};
-ghost use Rattle.ktrun.specs.Statuses.{IsStatus, status_line};
+ghost use Rattle.ktrun.specs.Statuses.{status_line};
 ghost use Rattle.std.specs.Io.KnownBytes.{Appends};
-ghost use Rattle.std.specs.Prelude.{◌≡◌, ◌≢◌, ◌⊎◌, [], IfOk};
+ghost use Rattle.std.specs.Prelude.{◌≡◌, ◌≢◌, ◌⊎◌, []};
 
 mod machine;
 mod plain;
@@ -16,27 +16,24 @@ use kt_outside::{RealFiles, RealSink, Sink};
 use plain::plain_main;
 use statuses::{NO_MEMORY, USAGE, write_line};
 use std::env;
-use std::io::{self, ErrorKind};
+use std::io::ErrorKind;
 use std::process::ExitCode;
 
 fn main(rt: HostRuntime) -> ExitCode {
+    let alloc = rt.alloc();
+    let mut out = RealSink::new(rt.stdout());
     let mut err = RealSink::new(rt.stderr());
-    let status = match serve(&rt, &mut err) {
-        Ok(status) => status,
+    let status = match env::args(&rt) {
+        Ok(words) => match words.skip(1).collect::<Vec<String>>(alloc) {
+            Ok(words) => {
+                let mut files = RealFiles::new(rt, alloc);
+                plain_main(alloc, words.as_slice(), &mut files, &mut out, &mut err).status
+            }
+            Err(_) => refuse(&mut err, ErrorKind::OutOfMemory),
+        },
         Err(error) => refuse(&mut err, error.kind()),
     };
     ExitCode::from(status)
-}
-
-/// Does what the words of the process ask for, and gives the status. Fails where the words can't be had.
-fn serve<E: Sink>(rt: &HostRuntime, err: &mut E) -> io::Result<u8>
-    ensures { IfOk result (λ status. IsStatus status) }
-{
-    let alloc = rt.alloc();
-    let words = env::args(rt)?.skip(1).collect::<Vec<String>>(alloc)?;
-    let mut files = RealFiles::new(rt.clone()?, alloc);
-    let mut out = RealSink::new(rt.stdout());
-    Ok(plain_main(alloc, words.as_slice(), &mut files, &mut out, err).status)
 }
 
 /// The status where the words can't be had: memory was refused, or one of them isn't text.
