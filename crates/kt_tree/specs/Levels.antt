@@ -1,7 +1,7 @@
 -- How many levels a tree has. A node that no other node holds is at level 1, each other one is one below the node that
 -- holds it. Declarations, blocks and lists of statements are no level of their own, parentheses are one. A type is at the
 -- level of what it belongs to, and each type in it is one below.
-use Rattle.std.specs.Prelude.{ℕ, ◌+◌, ◌-◌, max, Bool, true, false, List, [], ◌∷◌, Option, Some, None, map}
+use Rattle.std.specs.Prelude.{ℕ, ◌+◌, ◌-◌, max, min, Bool, true, false, List, [], ◌∷◌, Option, Some, None, map}
 use Rattle.kt_tree.specs.declared.declarations.ConstantValue.{ConstantValue}
 use Rattle.kt_tree.specs.declared.declarations.ConstantValue.TheVariants as value
 use Rattle.kt_tree.specs.declared.bodies.TextPart.{TextPart}
@@ -16,6 +16,10 @@ use Rattle.kt_tree.specs.Declarations.{TypeParameterTree, TypedParameterTree, Fu
 abbrev pub most : List ℕ → ℕ
 most [] = 0
 most (n ∷ ns) = max n (most ns)
+
+-- as far as a number of 32 bits counts
+abbrev pub counted : ℕ → ℕ
+counted n = min n 4294967295
 
 abbrev mutual
   pub type_levels : TypeTree → ℕ

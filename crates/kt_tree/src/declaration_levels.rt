@@ -3,8 +3,8 @@
 ghost use Rattle.kt_tree.specs.Bodies.{expression_tree};
 ghost use Rattle.kt_tree.specs.Declarations.{class_tree, constructor_parameter_tree, declaration_tree, file_tree, function_tree, interface_tree, maybe_function_body, maybe_super_arguments, member_tree, supertype_tree, type_parameter_tree, typed_parameter_tree};
 ghost use Rattle.kt_tree.specs.Levels as spec;
-ghost use Rattle.kt_tree.specs.Levels.{most};
-ghost use Rattle.std.specs.Prelude.{◌≡◌, ◌<◌, ◌^◌, map};
+ghost use Rattle.kt_tree.specs.Levels.{counted, most};
+ghost use Rattle.std.specs.Prelude.{◌≡◌, map};
 
 use crate::bodies::{Expression, TextPart};
 use crate::declarations::{
@@ -18,8 +18,7 @@ impl FileTree {
     /// How many levels the tree has. A node that no other node holds is at level 1, and each other one is one below the
     /// node that holds it. A file without any node has none.
     pub fn levels(&self) -> u32
-        requires { spec.file_levels (file_tree self.now) < 2 ^ 32 }
-        ensures { result ≡ spec.file_levels (file_tree self.now) }
+        ensures { result ≡ counted (spec.file_levels (file_tree self.now)) }
     {
         let mut most = 0;
         for declaration in self.declarations.as_slice() {
@@ -32,8 +31,7 @@ impl FileTree {
 impl Declaration {
     /// How many levels the declaration has.
     pub fn levels(&self) -> u32
-        requires { spec.declaration_levels (declaration_tree self.now) < 2 ^ 32 }
-        ensures { result ≡ spec.declaration_levels (declaration_tree self.now) }
+        ensures { result ≡ counted (spec.declaration_levels (declaration_tree self.now)) }
     {
         match self {
             Declaration::Function(function) => function.levels(),
@@ -50,8 +48,7 @@ impl Declaration {
 impl FunctionDeclaration {
     /// How many levels the function has.
     pub fn levels(&self) -> u32
-        requires { spec.function_levels (function_tree self.now) < 2 ^ 32 }
-        ensures { result ≡ spec.function_levels (function_tree self.now) }
+        ensures { result ≡ counted (spec.function_levels (function_tree self.now)) }
     {
         let types = type_parameters_levels(self.type_parameters.as_slice());
         let parameters = function_parameters_levels(self.parameters.as_slice());
@@ -62,8 +59,7 @@ impl FunctionDeclaration {
 }
 
 fn function_body_levels(body: &Option<FunctionBody>) -> u32
-    requires { spec.function_body_levels (maybe_function_body body.now) < 2 ^ 32 }
-    ensures { result ≡ spec.function_body_levels (maybe_function_body body.now) }
+    ensures { result ≡ counted (spec.function_body_levels (maybe_function_body body.now)) }
 {
     match body {
         Some(FunctionBody::Braces(block)) => block.levels(),
@@ -73,8 +69,7 @@ fn function_body_levels(body: &Option<FunctionBody>) -> u32
 }
 
 fn type_parameters_levels(parameters: &[TypeParameter]) -> u32
-    requires { most (map spec.type_parameter_levels (map type_parameter_tree parameters.now)) < 2 ^ 32 }
-    ensures { result ≡ most (map spec.type_parameter_levels (map type_parameter_tree parameters.now)) }
+    ensures { result ≡ counted (most (map spec.type_parameter_levels (map type_parameter_tree parameters.now))) }
 {
     let mut most = 0;
     for parameter in parameters {
@@ -84,8 +79,7 @@ fn type_parameters_levels(parameters: &[TypeParameter]) -> u32
 }
 
 fn function_parameters_levels(parameters: &[Parameter]) -> u32
-    requires { most (map spec.typed_parameter_levels (map typed_parameter_tree parameters.now)) < 2 ^ 32 }
-    ensures { result ≡ most (map spec.typed_parameter_levels (map typed_parameter_tree parameters.now)) }
+    ensures { result ≡ counted (most (map spec.typed_parameter_levels (map typed_parameter_tree parameters.now))) }
 {
     let mut most = 0;
     for parameter in parameters {
@@ -95,8 +89,7 @@ fn function_parameters_levels(parameters: &[Parameter]) -> u32
 }
 
 fn constructor_parameters_levels(parameters: &[ConstructorParameter]) -> u32
-    requires { most (map spec.constructor_parameter_levels (map constructor_parameter_tree parameters.now)) < 2 ^ 32 }
-    ensures { result ≡ most (map spec.constructor_parameter_levels (map constructor_parameter_tree parameters.now)) }
+    ensures { result ≡ counted (most (map spec.constructor_parameter_levels (map constructor_parameter_tree parameters.now))) }
 {
     let mut most = 0;
     for parameter in parameters {
@@ -108,8 +101,7 @@ fn constructor_parameters_levels(parameters: &[ConstructorParameter]) -> u32
 impl ClassDeclaration {
     /// How many levels the class has.
     pub fn levels(&self) -> u32
-        requires { spec.class_levels (class_tree self.now) < 2 ^ 32 }
-        ensures { result ≡ spec.class_levels (class_tree self.now) }
+        ensures { result ≡ counted (spec.class_levels (class_tree self.now)) }
     {
         let types = type_parameters_levels(self.type_parameters.as_slice());
         let parameters = constructor_parameters_levels(self.parameters.as_slice());
@@ -120,8 +112,7 @@ impl ClassDeclaration {
 }
 
 fn supertypes_levels(supertypes: &[Supertype]) -> u32
-    requires { most (map spec.supertype_levels (map supertype_tree supertypes.now)) < 2 ^ 32 }
-    ensures { result ≡ most (map spec.supertype_levels (map supertype_tree supertypes.now)) }
+    ensures { result ≡ counted (most (map spec.supertype_levels (map supertype_tree supertypes.now))) }
 {
     let mut most = 0;
     for supertype in supertypes {
@@ -132,8 +123,7 @@ fn supertypes_levels(supertypes: &[Supertype]) -> u32
 }
 
 fn super_arguments_levels(arguments: &Option<SuperArguments>) -> u32
-    requires { spec.super_arguments_levels (maybe_super_arguments arguments.now) < 2 ^ 32 }
-    ensures { result ≡ spec.super_arguments_levels (maybe_super_arguments arguments.now) }
+    ensures { result ≡ counted (spec.super_arguments_levels (maybe_super_arguments arguments.now)) }
 {
     match arguments {
         Some(arguments) => values_levels(arguments.values.as_slice()),
@@ -142,8 +132,7 @@ fn super_arguments_levels(arguments: &Option<SuperArguments>) -> u32
 }
 
 fn values_levels(values: &[Expression]) -> u32
-    requires { most (map spec.levels (map expression_tree values.now)) < 2 ^ 32 }
-    ensures { result ≡ most (map spec.levels (map expression_tree values.now)) }
+    ensures { result ≡ counted (most (map spec.levels (map expression_tree values.now))) }
 {
     let mut most = 0;
     for value in values {
@@ -153,8 +142,7 @@ fn values_levels(values: &[Expression]) -> u32
 }
 
 fn members_levels(members: &[ClassMember]) -> u32
-    requires { most (map spec.member_levels (map member_tree members.now)) < 2 ^ 32 }
-    ensures { result ≡ most (map spec.member_levels (map member_tree members.now)) }
+    ensures { result ≡ counted (most (map spec.member_levels (map member_tree members.now))) }
 {
     let mut most = 0;
     for member in members {
@@ -164,8 +152,7 @@ fn members_levels(members: &[ClassMember]) -> u32
 }
 
 fn member_levels(member: &ClassMember) -> u32
-    requires { spec.member_levels (member_tree member.now) < 2 ^ 32 }
-    ensures { result ≡ spec.member_levels (member_tree member.now) }
+    ensures { result ≡ counted (spec.member_levels (member_tree member.now)) }
 {
     match member {
         ClassMember::Method(function) => function.levels(),
@@ -181,8 +168,7 @@ fn member_levels(member: &ClassMember) -> u32
 impl InterfaceDeclaration {
     /// How many levels the interface has.
     pub fn levels(&self) -> u32
-        requires { spec.interface_levels (interface_tree self.now) < 2 ^ 32 }
-        ensures { result ≡ spec.interface_levels (interface_tree self.now) }
+        ensures { result ≡ counted (spec.interface_levels (interface_tree self.now)) }
     {
         let types = type_parameters_levels(self.type_parameters.as_slice());
         let supertypes = arguments_levels(self.supertypes.as_slice());
@@ -192,8 +178,7 @@ impl InterfaceDeclaration {
 }
 
 fn functions_levels(functions: &[FunctionDeclaration]) -> u32
-    requires { most (map spec.function_levels (map function_tree functions.now)) < 2 ^ 32 }
-    ensures { result ≡ most (map spec.function_levels (map function_tree functions.now)) }
+    ensures { result ≡ counted (most (map spec.function_levels (map function_tree functions.now))) }
 {
     let mut most = 0;
     for function in functions {

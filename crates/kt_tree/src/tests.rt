@@ -1,10 +1,5 @@
 //! Trees of great width are built, walked and dropped.
 
-ghost use Rattle.kt_tree.specs.Bodies.{block_tree, statement_tree};
-ghost use Rattle.kt_tree.specs.Declarations.{declaration_tree, file_tree};
-ghost use Rattle.kt_tree.specs.Levels.{block_levels, declaration_levels, file_levels, statement_levels};
-ghost use Rattle.std.specs.Prelude.{◌≡◌, ◌≤◌, IfOk};
-
 use crate::bodies::{Block, Expression, ExpressionKind, Statement, StatementKind};
 use crate::declarations::{Declaration, EnumDeclaration, FileTree};
 use crate::tokens::{Keyword, Sign, SoftKeyword, Token, TokenKind};
@@ -15,9 +10,7 @@ use std::test::Fail;
 
 const AT: Pos = Pos { line: 1, column: 1 };
 
-fn break_statement(alloc: Global) -> Result<Statement, NoMemory>
-    ensures { IfOk result (λ s. statement_levels (statement_tree s) ≤ 1) }
-{
+fn break_statement(alloc: Global) -> Result<Statement, NoMemory> {
     let value = Boxed::new(
         alloc,
         Expression {
@@ -32,10 +25,7 @@ fn break_statement(alloc: Global) -> Result<Statement, NoMemory>
 }
 
 /// A block of so many statements.
-#[tactic(auto, using(crate::proofs::Wide::one_statement_more))]
-fn wide_block(alloc: Global, count: u32) -> Result<Block, NoMemory>
-    ensures { IfOk result (λ b. block_levels (block_tree b) ≤ 1) }
-{
+fn wide_block(alloc: Global, count: u32) -> Result<Block, NoMemory> {
     let mut statements = Items::new(alloc);
     for _turn in 0..count {
         statements.push(break_statement(alloc)?)?;
@@ -46,9 +36,7 @@ fn wide_block(alloc: Global, count: u32) -> Result<Block, NoMemory>
     })
 }
 
-fn empty_enum(alloc: Global) -> Result<Declaration, NoMemory>
-    ensures { IfOk result (λ d. declaration_levels (declaration_tree d) ≡ 0) }
-{
+fn empty_enum(alloc: Global) -> Result<Declaration, NoMemory> {
     let name = Name::of(alloc, b"E")?;
     Ok(Declaration::Enum(EnumDeclaration {
         at: AT,
@@ -58,10 +46,7 @@ fn empty_enum(alloc: Global) -> Result<Declaration, NoMemory>
 }
 
 /// A file of so many declarations.
-#[tactic(auto, using(crate::proofs::Wide::one_declaration_more))]
-fn wide_file(alloc: Global, count: u32) -> Result<FileTree, NoMemory>
-    ensures { IfOk result (λ f. file_levels (file_tree f) ≡ 0) }
-{
+fn wide_file(alloc: Global, count: u32) -> Result<FileTree, NoMemory> {
     let mut declarations = Items::new(alloc);
     for _turn in 0..count {
         declarations.push(empty_enum(alloc)?)?;

@@ -1,7 +1,7 @@
-use Rattle.std.proofs.Common.{◌≡◌, ◌<◌, ◌^◌, max, map, drop}
+use Rattle.std.proofs.Common.{◌≡◌, max, map, drop}
 use Rattle.kt_tree.specs.Declarations.{constructor_parameter_tree}
-use Rattle.kt_tree.specs.Levels.{constructor_parameter_levels, most}
+use Rattle.kt_tree.specs.Levels.{counted, constructor_parameter_levels, most}
 use Rattle.kt_tree.proofs.declaration_levels.constructor_parameters_levels.Given as goal
 
 abbrev pub invariant-loop-parameter : goal.invariant-loop-parameter
-invariant-loop-parameter l = (most (map constructor_parameter_levels (map constructor_parameter_tree l.parameters)) < 2 ^ 32) × (max l.most (most (map constructor_parameter_levels (map constructor_parameter_tree (drop l.parameter-index l.parameters)))) ≡ most (map constructor_parameter_levels (map constructor_parameter_tree l.parameters)))
+invariant-loop-parameter l = max l.most (counted (most (map constructor_parameter_levels (map constructor_parameter_tree (drop l.parameter-index l.parameters))))) ≡ counted (most (map constructor_parameter_levels (map constructor_parameter_tree l.parameters)))
