@@ -1,6 +1,6 @@
 //! A cursor over tokens, which keeps the furthest token that was examined in vain.
 
-ghost use Rattle.kt_grammar.specs.Cursors.{Reads, Turned};
+ghost use Rattle.kt_grammar.specs.Cursors.{Turned};
 ghost use Rattle.kt_grammar.specs.Parsers as spec;
 ghost use Rattle.kt_grammar.specs.Parsers.{behind, cursor, further};
 ghost use Rattle.kt_grammar.specs.Terminals.{is_separator};

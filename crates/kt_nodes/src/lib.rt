@@ -1,4 +1,4 @@
-//! Makers of the nodes of expressions, statements and blocks, for the code of a parser.
+//! Makers of the nodes of types, expressions, statements and blocks, for the code of a parser.
 //!
 //! Each takes the children of a node and says which tree the node is seen as. A maker that takes no place gives the node
 //! the place of its first operand, which stands first in the text.
@@ -8,5 +8,6 @@ pub mod blocks;
 pub mod expressions;
 pub mod statements;
 pub mod strings;
+pub mod types;
 #[cfg(test)]
 mod tests;

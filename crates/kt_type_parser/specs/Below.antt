@@ -11,7 +11,7 @@ use Rattle.kt_tree.specs.Types.{TypeTree, named, types_of, type_tree}
 use Rattle.kt_grammar.specs.declared.error.ParseError.{ParseError}
 use Rattle.kt_grammar.specs.Parsers.{Cursor, Parser, ◌>>=◌, ◌>>◌, pure, token, ahead, attempt_if}
 use Rattle.kt_grammar.specs.Readers.{type_parser, type_arguments, named_type, maybe_nullable}
-use Rattle.kt_type_parser.specs.Steps.{ReadsAs}
+use Rattle.kt_steps.specs.Steps.{ReadsAs}
 
 -- a function value that reads types of so many levels
 pub record ReadsBelow (room : ℕ) (pre : Global → ℕ → MutBor (Cursor Token) → Type 0)

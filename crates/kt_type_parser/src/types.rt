@@ -8,27 +8,17 @@ ghost use Rattle.kt_grammar.specs.Readers.{type_parser};
 ghost use Rattle.kt_grammar.specs.Parsers.{some_levels};
 ghost use Rattle.kt_tree.specs.Tokens.{is_sign};
 ghost use Rattle.kt_tree.specs.Types.{type_tree, types_of};
-ghost use Rattle.kt_type_parser.specs.Steps.{ReadsAs, Tries};
+ghost use Rattle.kt_steps.specs.Steps.{ReadsAs, Tries};
 ghost use Rattle.kt_type_parser.specs.Below.{ReadsBelow, suspend_ahead, only_one, behind_name, named_or_nullable};
 ghost use Rattle.std.specs.Prelude.{◌≡◌, map};
 
-use crate::nodes::{function, named, nullable, parenthesized};
-use crate::steps::{
-    Node, comma_list, expect, expect_identifier, maybe_comma_list, name_of, sign_ahead,
-};
 use kt_base::Name;
 use kt_grammar::{ParseError, Tokens};
+use kt_nodes::types::{function, named, nullable, parenthesized};
+use kt_steps::{comma_list, expect, expect_identifier, maybe_comma_list, name_of, sign_ahead};
 use kt_tree::{Sign, SoftKeyword, TypeReference};
 use sqlite_items::Items;
 use std::alloc::Global;
-
-impl Node for TypeReference {
-    ghost use Rattle.kt_tree.specs.Types.{TypeTree, type_tree};
-
-    ghost Tree = { TypeTree };
-
-    ghost tree = { type_tree };
-}
 
 /// The parser of the types that a type holds, of at most `room` levels.
 #[derive(Clone, Copy)]
@@ -151,7 +141,7 @@ impl<F: Fn(Global, u32, &mut Tokens<'_>) -> Result<TypeReference, ParseError>> T
     }
 
     /// Behind types in parentheses: a function type, or one type in parentheses.
-    #[tactic(auto, using(crate::proofs::TypeSteps::reads_from, crate::proofs::TypeSteps::types_arrow, crate::proofs::TypeSteps::types_one, crate::proofs::TypeSteps::types_none))]
+    #[tactic(auto, using(kt_steps::proofs::Ways::reads_from, crate::proofs::TypeSteps::types_arrow, crate::proofs::TypeSteps::types_one, crate::proofs::TypeSteps::types_none))]
     fn behind_types(
         &self,
         types: Items<TypeReference>,

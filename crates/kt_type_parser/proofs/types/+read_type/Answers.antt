@@ -1,7 +1,8 @@
 use Rattle.std.proofs.Common.{Err, arith, sym, ap, ◌∙◌}
 use Rattle.kt_tree.specs.declared.tokens.Token.{Token}
 use Rattle.kt_grammar.specs.Parsers.{Cursor}
-use Rattle.kt_type_parser.proofs.TypeSteps.{reads_from, type_zero, type_less}
+use Rattle.kt_steps.proofs.Ways.{reads_from}
+use Rattle.kt_type_parser.proofs.TypeSteps.{type_zero, type_less}
 use Rattle.kt_type_parser.proofs.types.+read_type.Goals as goal
 
 pub returns-then-room-eq0 : goal.returns-then-room-eq0

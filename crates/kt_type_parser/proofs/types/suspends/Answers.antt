@@ -1,7 +1,7 @@
 use Rattle.std.proofs.Common.{Err, ◌∙◌, sym, ap}
 use Rattle.kt_tree.specs.declared.tokens.Token.{Token}
 use Rattle.kt_grammar.specs.Parsers.{Cursor}
-use Rattle.kt_type_parser.proofs.TypeSteps.{past_taken, past_missed, missed_rest}
+use Rattle.kt_steps.proofs.Ways.{past_taken, past_missed, missed_rest}
 use Rattle.kt_type_parser.proofs.types.suspends.Goals as goal
 
 pub returns-then-sign_ahead : goal.returns-then-sign_ahead

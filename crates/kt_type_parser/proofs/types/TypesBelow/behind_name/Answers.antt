@@ -1,5 +1,6 @@
 use Rattle.std.proofs.Common.{arith}
-use Rattle.kt_type_parser.proofs.TypeSteps.{has_room, name_then_arguments, name_alone}
+use Rattle.kt_steps.proofs.Ways.{has_room}
+use Rattle.kt_type_parser.proofs.TypeSteps.{name_then_arguments, name_alone}
 use Rattle.kt_type_parser.proofs.types.TypesBelow.behind_name.Goals as goal
 
 pub returns-in-Ok : goal.returns-in-Ok

@@ -1,5 +1,6 @@
 use Rattle.std.proofs.Common.{arith}
-use Rattle.kt_type_parser.proofs.TypeSteps.{has_room, reads_from, over_suspend, over_parenthesis, over_named}
+use Rattle.kt_steps.proofs.Ways.{has_room, reads_from}
+use Rattle.kt_type_parser.proofs.TypeSteps.{over_suspend, over_parenthesis, over_named}
 use Rattle.kt_type_parser.proofs.types.TypesBelow.whole.Goals as goal
 
 pub returns-then-suspends : goal.returns-then-suspends

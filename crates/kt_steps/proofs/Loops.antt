@@ -5,8 +5,8 @@ use Rattle.kt_grammar.specs.Cursors.{Turned}
 use Rattle.kt_grammar.specs.declared.error.ParseError.{ParseError}
 use Rattle.kt_grammar.specs.declared.error.ParseError.TheVariants as parse_error
 use Rattle.std.proofs.lemmas.List.{map-append}
-use Rattle.kt_type_parser.specs.Steps as steps
-use Rattle.kt_type_parser.specs.Steps.{ReadsAs}
+use Rattle.kt_steps.specs.Steps as steps
+use Rattle.kt_steps.specs.Steps.{ReadsAs}
 use Rattle.kt_grammar.proofs.Turns.{on_taken, on_missed}
 
 module _ {T S B : Type 0} (turn : S → Parser T (S ⊎ B)) (n at : ℕ) (some : at < n) (x : S) (c : Cursor T) where

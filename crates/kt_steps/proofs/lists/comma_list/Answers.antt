@@ -1,6 +1,6 @@
 use Rattle.std.proofs.Common.{rules, ◌∙◌}
-use Rattle.kt_type_parser.proofs.Loops.{loop_fails, loop_spent, list_goes, list_ends, refused}
-use Rattle.kt_type_parser.proofs.steps.comma_list.Goals as goal
+use Rattle.kt_steps.proofs.Loops.{loop_fails, loop_spent, list_goes, list_ends, refused}
+use Rattle.kt_steps.proofs.lists.comma_list.Goals as goal
 
 pub returns-in_err-next : goal.returns-in_err-next
 returns-in_err-next g c p h = refused _ _ c.in_err-next.field-0.0 _ (λ some. c.loop-turn.invariant p h ∙ loop_fails _ _ _ c.loop-turn-test.true _ _ _ (c.in_err-next.ensures p h _ some)) _ c.from_residual-in_err-next.ensures

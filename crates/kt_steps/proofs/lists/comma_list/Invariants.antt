@@ -4,8 +4,8 @@ use Rattle.kt_tree.specs.declared.tokens.Sign.TheVariants as sign
 use Rattle.kt_tree.specs.Tokens.{is_sign}
 use Rattle.kt_grammar.specs.Parsers.{Parser, comma_turn, loop}
 use Rattle.kt_grammar.specs.Readers.{commas}
-use Rattle.kt_type_parser.specs.Steps.{EachReads}
-use Rattle.kt_type_parser.proofs.steps.comma_list.Given as goal
+use Rattle.kt_steps.specs.Steps.{EachReads}
+use Rattle.kt_steps.proofs.lists.comma_list.Given as goal
 
 -- the turns that are left give the list
 abbrev pub invariant-loop-turn : goal.invariant-loop-turn

@@ -1,5 +1,5 @@
-use Rattle.kt_type_parser.proofs.Loops.{comma_goes, comma_fails, close_ends, close_fails, refused}
-use Rattle.kt_type_parser.proofs.steps.further_item.Goals as goal
+use Rattle.kt_steps.proofs.Loops.{comma_goes, comma_fails, close_ends, close_fails, refused}
+use Rattle.kt_steps.proofs.lists.further_item.Goals as goal
 
 pub returns-in_err-next-in-Some : goal.returns-in_err-next-in-Some
 returns-in_err-next-in-Some g c p h read = refused _ _ c.in_err-next-in-Some.field-0.0 _ (λ some. comma_fails _ _ p read _ _ _ c.in-Some.ensures _ (h _ _ _ c.in_err-next-in-Some.ensures some)) _ c.from_residual.ensures

@@ -1,5 +1,5 @@
-use Rattle.kt_type_parser.proofs.Loops.{none_listed, some_listed}
-use Rattle.kt_type_parser.proofs.steps.maybe_comma_list.Goals as goal
+use Rattle.kt_steps.proofs.Loops.{none_listed, some_listed}
+use Rattle.kt_steps.proofs.lists.maybe_comma_list.Goals as goal
 
 pub returns-in-Some : goal.returns-in-Some
 returns-in-Some g c p h = none_listed _ _ _ p _ _ _ c.in-Some.ensures _ c.new.ensures
