@@ -6,7 +6,8 @@ use Rattle.kt_tree.specs.declared.tokens.Sign.TheVariants as sign
 use Rattle.kt_tree.specs.Tokens.{kind_is_sign, kind_is_identifier, is_sign}
 use Rattle.kt_grammar.specs.Parsers.{Cursor, Parser, further, first, some_levels}
 use Rattle.kt_grammar.specs.Terminals.{either}
-use Rattle.kt_grammar.specs.Levels.{Context, Phrases}
+use Rattle.kt_grammar.specs.Levels.{Phrases}
+use Rattle.kt_grammar.specs.declared.context.Context.{Context}
 use Rattle.kt_grammar.specs.ExpressionParser.{Parsers}
 use Rattle.kt_grammar.proofs.Correct.{Correct}
 use Rattle.kt_grammar.proofs.Steps.{Any}

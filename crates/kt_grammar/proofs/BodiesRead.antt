@@ -15,7 +15,8 @@ use Rattle.kt_grammar.specs.Phrases.{IsNothing, IsToken, Seq, Either, NotReads}
 use Rattle.kt_grammar.specs.Words.{IsMeant, Maybe}
 use Rattle.kt_grammar.specs.Terminals.{variable_of, name_of, means, nothing}
 use Rattle.kt_grammar.specs.Types.{IsType}
-use Rattle.kt_grammar.specs.Levels.{Context, Phrases}
+use Rattle.kt_grammar.specs.Levels.{Phrases}
+use Rattle.kt_grammar.specs.declared.context.Context.{Context}
 use Rattle.kt_grammar.specs.Expressions.{IsDisjunction, IsBlock, IsBlockRest}
 use Rattle.kt_grammar.specs.Statements.{IsInitializer, IsLocal, IsSimple, IsWhile, IsDoWhile, IsFor, IsStatement, IsBody}
 use Rattle.kt_grammar.specs.Readers.{meant, on_if}

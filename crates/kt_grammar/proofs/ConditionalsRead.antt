@@ -13,7 +13,8 @@ use Rattle.kt_grammar.specs.Parsers.{first, some_levels, ◌>>◌, token, skip}
 use Rattle.kt_grammar.specs.Phrases.{IsNothing, IsToken, Seq, NotReads, FirstOf, WhereRoom}
 use Rattle.kt_grammar.specs.Terminals.{is_no_arrow}
 use Rattle.kt_grammar.specs.Words.{IsPast, Items}
-use Rattle.kt_grammar.specs.Levels.{Context, Phrases}
+use Rattle.kt_grammar.specs.Levels.{Phrases}
+use Rattle.kt_grammar.specs.declared.context.Context.{Context}
 use Rattle.kt_grammar.specs.Expressions.{IsElse, IsSubject}
 use Rattle.kt_grammar.specs.ExpressionParser.{Parsers, else_word, if_rest, subject, when_rest}
 use Rattle.kt_grammar.proofs.TypesRead.{a_sign}

@@ -14,7 +14,8 @@ use Rattle.kt_grammar.specs.Phrases.{IsNothing, IsToken, Seq, Either, NotReads}
 use Rattle.kt_grammar.specs.Words.{Empty, IsMeant, IsPast, Several, Directly}
 use Rattle.kt_grammar.specs.Terminals.{Meaning, type_check_of, means, nothing}
 use Rattle.kt_grammar.specs.Types.{IsType}
-use Rattle.kt_grammar.specs.Levels.{Context, Phrases}
+use Rattle.kt_grammar.specs.Levels.{Phrases}
+use Rattle.kt_grammar.specs.declared.context.Context.{Context}
 use Rattle.kt_grammar.specs.Statements.{IsCondition, IsEntry, IsCatchRest}
 use Rattle.kt_grammar.specs.Readers.{meant, several_items, type_parser}
 use Rattle.kt_grammar.specs.ExpressionParser.{Parsers}

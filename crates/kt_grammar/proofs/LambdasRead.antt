@@ -9,7 +9,8 @@ use Rattle.kt_grammar.specs.Parsers.{first, some_levels, pure, attempt_if}
 use Rattle.kt_grammar.specs.Phrases.{IsNothing, IsToken, Seq, FirstOf, NotReads}
 use Rattle.kt_grammar.specs.Terminals.{name_of}
 use Rattle.kt_grammar.specs.Words.{IsLines}
-use Rattle.kt_grammar.specs.Levels.{Context, Phrases}
+use Rattle.kt_grammar.specs.Levels.{Phrases}
+use Rattle.kt_grammar.specs.declared.context.Context.{Context}
 use Rattle.kt_grammar.specs.Expressions.{IsParameter, IsBlockRest, IsLambdaHead, IsLambda, in_lambda}
 use Rattle.kt_grammar.specs.ExpressionParser.{Parsers, parameter_of, lambda_head, lambda_rest, lambda_parser}
 use Rattle.kt_grammar.proofs.Optional.{not_reads, token_begins}

@@ -8,7 +8,8 @@ use Rattle.kt_tree.specs.Bodies.{ExpressionTree}
 use Rattle.kt_grammar.specs.Parsers.{Parser, some_levels}
 use Rattle.kt_grammar.specs.Words.{Empty}
 use Rattle.kt_grammar.specs.Readers.{refuse}
-use Rattle.kt_grammar.specs.Levels.{Context, Phrases, none}
+use Rattle.kt_grammar.specs.Levels.{Phrases, none}
+use Rattle.kt_grammar.specs.declared.context.Context.{Context}
 use Rattle.kt_grammar.specs.Expressions.{IsPart, IsParameter, IsLambda, IsPrefixed, IsCast, IsMultiplicative, IsAdditive, IsInfix, IsTest, IsComparison, IsEquality, IsConjunction, IsDisjunction}
 use Rattle.kt_grammar.specs.Statements.{IsStatement, IsBody, IsCondition, IsEntry, IsCatchRest, over, phrases}
 use Rattle.kt_grammar.specs.ExpressionParser.{Parsers, prefix_parser, disjunction_parser}

@@ -13,7 +13,8 @@ use Rattle.kt_grammar.specs.Parsers.{Parser, first, some_levels}
 use Rattle.kt_grammar.specs.Phrases.{IsNothing, IsToken, Seq}
 use Rattle.kt_grammar.specs.Words.{IsMeant, IsPast}
 use Rattle.kt_grammar.specs.Terminals.{range_of, name_of}
-use Rattle.kt_grammar.specs.Levels.{Context, Phrases}
+use Rattle.kt_grammar.specs.Levels.{Phrases}
+use Rattle.kt_grammar.specs.declared.context.Context.{Context}
 use Rattle.kt_grammar.specs.Expressions.{IsBlock, IsBlockRest}
 use Rattle.kt_grammar.specs.Statements.{in_loop}
 use Rattle.kt_grammar.specs.Readers.{meant}

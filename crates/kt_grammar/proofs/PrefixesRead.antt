@@ -15,7 +15,8 @@ use Rattle.kt_grammar.specs.Parsers.{Parser, first, some_levels, ◌>>=◌, pure
 use Rattle.kt_grammar.specs.Phrases.{IsNothing, Seq, Either, NotReads}
 use Rattle.kt_grammar.specs.Terminals.{prefix_of, means, nothing}
 use Rattle.kt_grammar.specs.Words.{IsMeant}
-use Rattle.kt_grammar.specs.Levels.{Context, Phrases}
+use Rattle.kt_grammar.specs.Levels.{Phrases}
+use Rattle.kt_grammar.specs.declared.context.Context.{Context}
 use Rattle.kt_grammar.specs.Expressions.{IsPostfix, IsPrefixed}
 use Rattle.kt_grammar.specs.Readers.{meant}
 use Rattle.kt_grammar.specs.ExpressionParser.{Parsers, postfix, prefix_parser}

@@ -17,7 +17,8 @@ use Rattle.kt_grammar.specs.Phrases.{IsNothing, IsToken, Seq, Either, NotReads, 
 use Rattle.kt_grammar.specs.Terminals.{kind_is_open_quote, keyword_literal, kind_literal, literal_of, name_of}
 use Rattle.kt_grammar.specs.Words.{IsMeant}
 use Rattle.kt_grammar.specs.Readers.{meant}
-use Rattle.kt_grammar.specs.Levels.{Context, Phrases}
+use Rattle.kt_grammar.specs.Levels.{Phrases}
+use Rattle.kt_grammar.specs.declared.context.Context.{Context}
 use Rattle.kt_grammar.specs.Expressions.{IsPrimary, IsPostfix}
 use Rattle.kt_grammar.specs.ExpressionParser.{Parsers, primary, postfix}
 use Rattle.kt_grammar.proofs.Steps.{truth}

@@ -20,7 +20,8 @@ use Rattle.kt_grammar.specs.Phrases.{IsNothing, IsToken, Seq, Either, FirstOf, W
 use Rattle.kt_grammar.specs.Words.{IsMeant, IsPast, Maybe}
 use Rattle.kt_grammar.specs.Terminals.{assignment_of, step_of, variable_of, name_of}
 use Rattle.kt_grammar.specs.Types.{IsType}
-use Rattle.kt_grammar.specs.Levels.{Context, Phrases, place, is_target}
+use Rattle.kt_grammar.specs.Levels.{Phrases, place, is_target}
+use Rattle.kt_grammar.specs.declared.context.Context.{Context}
 use Rattle.kt_grammar.specs.Expressions.{IsDisjunction}
 use Rattle.kt_grammar.specs.Statements.{IsInitializer, IsLocal, IsSimple}
 use Rattle.kt_grammar.specs.Readers.{meant, lines, on_if, maybe, type_parser}

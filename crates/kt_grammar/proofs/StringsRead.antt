@@ -16,7 +16,8 @@ use Rattle.kt_grammar.specs.Parsers.{Cursor, Parser, further, some_levels, repea
 use Rattle.kt_grammar.specs.Phrases.{IsNothing, IsToken, Seq, Either, If, Loop, ends}
 use Rattle.kt_grammar.specs.Terminals.{is_name_part, is_this_part, is_open_template, is_close_quote, kind_is_name_part, kind_is_this_part, kind_is_open_template, kind_is_close_quote, name_of, text_of}
 use Rattle.kt_grammar.specs.Words.{Empty, IsMeant, IsPast}
-use Rattle.kt_grammar.specs.Levels.{Context, Phrases}
+use Rattle.kt_grammar.specs.Levels.{Phrases}
+use Rattle.kt_grammar.specs.declared.context.Context.{Context}
 use Rattle.kt_grammar.specs.Expressions.{IsPart, IsNextPart, PartTurn}
 use Rattle.kt_grammar.specs.ExpressionParser.{Parsers, part_of, part_if, next_part, part_turn}
 use Rattle.kt_grammar.proofs.Steps.{Any, truth}

@@ -12,7 +12,8 @@ use Rattle.kt_grammar.specs.Parsers.{first, some_levels, repeat}
 use Rattle.kt_grammar.specs.Phrases.{IsNothing, IsToken, Seq, FirstOf, NotReads, Loop, WhereRoom}
 use Rattle.kt_grammar.specs.Terminals.{either, means, nothing, member_of, name_of}
 use Rattle.kt_grammar.specs.Words.{CommaList, MaybeCommaList, IsMeant, IsPast}
-use Rattle.kt_grammar.specs.Levels.{Context, Phrases, place, ends_in_name}
+use Rattle.kt_grammar.specs.Levels.{Phrases, place, ends_in_name}
+use Rattle.kt_grammar.specs.declared.context.Context.{Context}
 use Rattle.kt_grammar.specs.Types.{IsType}
 use Rattle.kt_grammar.specs.Readers.{commas, maybe_commas, type_parser}
 use Rattle.kt_grammar.specs.Expressions.{IsArguments, IsCall, IsSuffix, IsTypeArgumentsOfCall, SuffixTurn}

@@ -14,7 +14,8 @@ use Rattle.kt_grammar.specs.Parsers.{first, some_levels, ◌>>=◌, pure, attemp
 use Rattle.kt_grammar.specs.Phrases.{IsNothing, IsToken, Seq, NotReads, FirstOf, WhereRoom, Loop, ends}
 use Rattle.kt_grammar.specs.Terminals.{name_of}
 use Rattle.kt_grammar.specs.Words.{IsPast}
-use Rattle.kt_grammar.specs.Levels.{Context, Phrases}
+use Rattle.kt_grammar.specs.Levels.{Phrases}
+use Rattle.kt_grammar.specs.declared.context.Context.{Context}
 use Rattle.kt_grammar.specs.Expressions.{IsBlock, IsBlockRest, IsCatchHead, IsFinallyHead, CatchTurn, IsNoFinally}
 use Rattle.kt_grammar.specs.ExpressionParser.{Parsers, block_rest, catch_head, finally_head, catch_turn, no_finally, try_rest}
 use Rattle.kt_grammar.proofs.Steps.{Any}

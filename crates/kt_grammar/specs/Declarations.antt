@@ -25,7 +25,8 @@ use Rattle.kt_grammar.specs.Sentences.{IsSentence, IsRefusedAt, OneValue}
 use Rattle.kt_grammar.specs.Terminals.{Meaning, means, nothing, name_of, is_end, is_open_quote, is_close_quote, literal_of, text_of, variable_of}
 use Rattle.kt_grammar.specs.Words.{Empty, Gives, IsSign, IsKeyword, IsSoftKeyword, IsIdentifier, IsMeant, IsLines, IsPast, Maybe, CommaList, MaybeCommaList, Several, Items, Directly}
 use Rattle.kt_grammar.specs.Types.{IsType, IsNamedType}
-use Rattle.kt_grammar.specs.Levels.{Context, Phrases, place}
+use Rattle.kt_grammar.specs.Levels.{Phrases, place}
+use Rattle.kt_grammar.specs.declared.context.Context.{Context}
 use Rattle.kt_grammar.specs.Expressions.{IsBlock}
 use Rattle.kt_grammar.specs.Statements.{phrases}
 

@@ -14,7 +14,8 @@ use Rattle.kt_tree.specs.Bodies.{ExpressionTree, PartTree, ParameterTree, Statem
 use Rattle.kt_tree.specs.Levels.{levels, parts_levels}
 use Rattle.kt_grammar.specs.Parsers.{some_levels, Parser, ◌>>=◌, ◌>>◌, pure, token, on, attempt, attempt_if, ahead, repeat, chain}
 use Rattle.kt_grammar.specs.Terminals.{is_no_arrow, either, name_of, is_open_quote, is_close_quote, is_name_part, is_this_part, is_open_template, literal_of, text_of, disjunction_of, conjunction_of, equality_of, comparison_of, elvis_of, infix_of, additive_of, multiplicative_of, prefix_of, type_check_of, cast_of, member_of}
-use Rattle.kt_grammar.specs.Levels.{Context, place, ends_in_name}
+use Rattle.kt_grammar.specs.Levels.{place, ends_in_name}
+use Rattle.kt_grammar.specs.declared.context.Context.{Context}
 use Rattle.kt_grammar.specs.Expressions.{in_lambda}
 use Rattle.kt_grammar.specs.Readers.{refuse, meant, on_if, lines, expect, maybe, maybe_commas, several_items, separated, type_arguments, type_parser}
 

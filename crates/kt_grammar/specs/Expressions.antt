@@ -17,7 +17,8 @@ use Rattle.kt_grammar.specs.Phrases.{Chain, IsToken, Seq, Either, Loop, If, Wher
 use Rattle.kt_grammar.specs.Terminals.{is_no_arrow, either, name_of, is_open_quote, is_close_quote, is_name_part, is_this_part, is_open_template, literal_of, text_of, disjunction_of, conjunction_of, equality_of, comparison_of, elvis_of, infix_of, additive_of, multiplicative_of, prefix_of, type_check_of, cast_of, member_of}
 use Rattle.kt_grammar.specs.Words.{Empty, Gives, IsSign, IsKeyword, IsSoftKeyword, IsIdentifier, IsMeant, IsLines, IsPast, Maybe, MaybeCommaList, Several, Items, Directly}
 use Rattle.kt_grammar.specs.Types.{IsType, IsTypeArguments}
-use Rattle.kt_grammar.specs.Levels.{Context, Phrases, place, ends_in_name}
+use Rattle.kt_grammar.specs.Levels.{Phrases, place, ends_in_name}
+use Rattle.kt_grammar.specs.declared.context.Context.{Context}
 
 -- ---- strings
 

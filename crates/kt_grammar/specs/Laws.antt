@@ -5,7 +5,7 @@ use Rattle.kt_grammar.specs.Parsers.{Parser, cursor}
 use Rattle.kt_grammar.specs.Sentences.{IsSentence, IsRefusedAt, OneValue}
 use Rattle.kt_grammar.specs.Types.{IsType}
 use Rattle.kt_grammar.specs.Readers.{type_parser}
-use Rattle.kt_grammar.specs.Levels.{Context}
+use Rattle.kt_grammar.specs.declared.context.Context.{Context}
 use Rattle.kt_grammar.specs.Statements.{phrases}
 use Rattle.kt_grammar.specs.StatementParser.{parsers}
 use Rattle.kt_grammar.specs.Declarations.{IsFile}

@@ -4,14 +4,8 @@ use Rattle.kt_base.specs.declared.refusals.Pos.{Pos}
 use Rattle.kt_tree.specs.declared.tokens.Token.{Token}
 use Rattle.kt_tree.specs.Bodies.{ExpressionTree, StatementTree, BodyTree, PartTree, ParameterTree, EntryTree, ConditionTree, CatchTree}
 use Rattle.kt_tree.specs.Bodies as e
+use Rattle.kt_grammar.specs.declared.context.Context.{Context}
 use Rattle.kt_grammar.specs.Words.{Empty}
-
--- where a phrase stands
-pub record Context : Type 0 where
-  -- in the body of a loop of the same function or lambda
-  pub in_loop : Bool
-  -- in a lambda
-  pub in_lambda : Bool
 
 -- phrases of at most so many levels, by where they stand
 pub record Phrases : Type 1 where

@@ -9,7 +9,8 @@ use Rattle.kt_tree.specs.Bodies.{ExpressionTree, StatementTree, BodyTree, EntryT
 use Rattle.kt_tree.specs.Levels.{levels}
 use Rattle.kt_grammar.specs.Parsers.{some_levels, first, Parser, ◌>>=◌, ◌>>◌, pure, token, on, attempt_if}
 use Rattle.kt_grammar.specs.Terminals.{name_of, variable_of, assignment_of, step_of, range_of, type_check_of}
-use Rattle.kt_grammar.specs.Levels.{Context, place, is_target}
+use Rattle.kt_grammar.specs.Levels.{place, is_target}
+use Rattle.kt_grammar.specs.declared.context.Context.{Context}
 use Rattle.kt_grammar.specs.Statements.{in_loop}
 use Rattle.kt_grammar.specs.Readers.{refuse, meant, on_if, lines, expect, maybe, several_items, type_parser}
 use Rattle.kt_grammar.specs.ExpressionParser.{Parsers, part_of, parameter_of, block_rest, block_of, lambda_parser, prefix_parser, cast_parser, multiplicative_parser, additive_parser, infix_parser, test_parser, comparison_parser, equality_parser, conjunction_parser, disjunction_parser}

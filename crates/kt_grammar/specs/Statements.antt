@@ -11,7 +11,8 @@ use Rattle.kt_grammar.specs.Phrases.{Seq, Either, If, WhereRoom}
 use Rattle.kt_grammar.specs.Terminals.{name_of, variable_of, assignment_of, step_of, range_of, type_check_of}
 use Rattle.kt_grammar.specs.Words.{Empty, Gives, IsSign, IsKeyword, IsIdentifier, IsMeant, IsPast, Maybe, Several, Directly}
 use Rattle.kt_grammar.specs.Types.{IsType}
-use Rattle.kt_grammar.specs.Levels.{Context, Phrases, none, place, is_target}
+use Rattle.kt_grammar.specs.Levels.{Phrases, none, place, is_target}
+use Rattle.kt_grammar.specs.declared.context.Context.{Context}
 use Rattle.kt_grammar.specs.Expressions as x
 use Rattle.kt_grammar.specs.Expressions.{IsBlock, IsPart, IsParameter, IsLambda, IsDisjunction, IsConjunction, IsEquality, IsComparison, IsTest, IsElvis, IsInfix, IsAdditive, IsMultiplicative, IsCast, IsPrefixed}
 

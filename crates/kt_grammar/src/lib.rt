@@ -5,10 +5,14 @@
 //! on which a parser's code stands: each of its calls is one of these steps.
 #![tactic(auto)]
 
+pub mod classes;
+pub mod context;
 pub mod error;
 pub mod laws;
 pub mod tokens;
 
+pub use classes::TokenClass;
+pub use context::Context;
 pub use error::ParseError;
 pub use tokens::Tokens;
 

@@ -34,7 +34,7 @@ fn the_cursor_walks(rt: HostRuntime) -> Result<(), Fail> {
     assert!(rt; cursor.keyword(Keyword::Val).is_some());
     let place = cursor.rest();
     assert!(rt; cursor.soft_keyword(SoftKeyword::Until).is_some());
-    cursor.go_back(place);
+    cursor.go_to(place);
     assert!(rt; cursor.identifier().is_some());
     cursor.skip_lines();
     assert!(rt; cursor.sign(Sign::Arrow).is_none());

@@ -3,11 +3,12 @@
 ghost use Rattle.kt_grammar.specs.Cursors.{Turned};
 ghost use Rattle.kt_grammar.specs.Parsers as spec;
 ghost use Rattle.kt_grammar.specs.Parsers.{behind, cursor, further};
-ghost use Rattle.kt_grammar.specs.Terminals.{is_separator};
+ghost use Rattle.kt_grammar.specs.Terminals.{is_of, is_separator};
 ghost use Rattle.kt_tree.specs.Tokens.{is_identifier, is_keyword, is_new_line, is_sign, is_soft_keyword};
 ghost use Rattle.std.specs.Prelude.{◌≡◌, ◌+◌, ◌<◌, ◌∷◌, length, Ok};
 ghost use Rattle.std.specs.Option.{option_copied};
 
+use crate::classes::TokenClass;
 use crate::error::ParseError;
 use kt_tree::{Keyword, Sign, SoftKeyword, Token};
 use std::marker::Model;
@@ -111,15 +112,15 @@ impl<'a> Tokens<'a> {
         self.far.len()
     }
 
-    /// The tokens that aren't taken yet: the place to which [`Tokens::go_back`] leads.
+    /// The tokens that aren't taken yet: a place for [`Tokens::go_to`].
     pub fn rest(&self) -> &'a [Token]
         ensures { result.now ≡ self.now.rest }
     {
         self.rest
     }
 
-    /// Goes back to a place. What was examined in vain is kept.
-    pub fn go_back(&mut self, place: &'a [Token])
+    /// Goes to a place. What was examined in vain is kept.
+    pub fn go_to(&mut self, place: &'a [Token])
         ensures { self.new ≡ cursor place.now self.old.far }
     {
         self.rest = place;
@@ -206,6 +207,19 @@ impl<'a> Tokens<'a> {
         }
     }
 
+    /// Takes the next token where it is of this class.
+    #[tactic(auto, using(crate::proofs::Behind::first_there, crate::proofs::Behind::first_passes))]
+    pub fn class(&mut self, class: TokenClass) -> Option<&'a Token>
+        ensures { Turned (is_of class) self.old (option_copied result) self.new }
+    {
+        if next_is_of(self.rest, class) {
+            Some(self.take())
+        } else {
+            self.far = furthest(self.rest, self.far);
+            None
+        }
+    }
+
     /// Takes the next token where it is an identifier.
     #[tactic(auto, using(crate::proofs::Behind::first_there, crate::proofs::Behind::first_passes))]
     pub fn identifier(&mut self) -> Option<&'a Token>
@@ -243,6 +257,15 @@ fn next_is_soft_keyword(tokens: &[Token], word: SoftKeyword) -> bool
 {
     match tokens {
         [token, ..] => token.is_soft_keyword(word),
+        [] => false,
+    }
+}
+
+fn next_is_of(tokens: &[Token], class: TokenClass) -> bool
+    ensures { result ≡ spec.first (is_of class) tokens.now }
+{
+    match tokens {
+        [token, ..] => class.contains(token),
         [] => false,
     }
 }

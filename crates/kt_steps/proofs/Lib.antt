@@ -1,2 +1,5 @@
-pub mod Loops
+pub mod FurtherItems
+pub mod SeparatedItems
+pub mod Turning
 pub mod Ways
+pub mod Choosing

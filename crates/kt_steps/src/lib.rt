@@ -1,10 +1,25 @@
-//! The steps that a recursive descent over the cursor of `kt_grammar` is made of: single tokens, looks ahead, and lists.
+//! The steps that a recursive descent over the cursor of `kt_grammar` is made of: single tokens, what tokens stand for,
+//! looks ahead, loops and lists.
 #![tactic(auto)]
 
+pub mod choices;
 pub mod lists;
+pub mod loops;
+pub mod meanings;
 pub mod node;
 pub mod steps;
+pub mod takes;
 
-pub use lists::{comma_list, maybe_comma_list};
+pub use choices::{attempt_if, class_if, keyword_if, sign_if, soft_keyword_if};
+pub use lists::{Lead, comma_list, maybe_comma_list, separated, several};
+pub use loops::{Turn, repeat};
+pub use meanings::BinaryLevel;
 pub use node::Node;
-pub use steps::{expect, expect_identifier, name_of, sign_ahead};
+pub use steps::{
+    class_ahead, expect, expect_identifier, expect_keyword, expect_meant, expect_soft_keyword,
+    meant, meant_text, name_of, sign_ahead,
+};
+pub use takes::{
+    meant_if, take_assignment_operator, take_binary_operator, take_cast, take_literal, take_member,
+    take_prefix_operator, take_range_operator, take_step_operator, take_type_check, take_variable,
+};

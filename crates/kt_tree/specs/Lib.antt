@@ -3,3 +3,4 @@ pub mod Types
 pub mod Bodies
 pub mod Declarations
 pub mod Levels
+pub mod Stages

@@ -192,14 +192,23 @@ fn parts_levels(parts: &[StringPart]) -> u32
 {
     let mut most = 0;
     for part in parts {
-        let held = match part {
+        most = part.levels().max(most);
+    }
+    most
+}
+
+impl StringPart {
+    /// How many levels the part holds. A name counts as the expression that it is short for.
+    #[cycle(levels)]
+    pub fn levels(&self) -> u32
+        ensures { result ≡ counted (spec.part_levels (part_tree self.now)) }
+    {
+        match self {
             StringPart::Text(_) => 0,
             StringPart::NamePart(_) | StringPart::ThisPart => 1,
             StringPart::Hole(inner) => inner.get().levels(),
-        };
-        most = held.max(most);
+        }
     }
-    most
 }
 
 #[cycle(levels)]

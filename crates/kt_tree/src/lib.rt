@@ -7,8 +7,10 @@
 
 pub mod bodies;
 pub mod declaration_levels;
+pub mod declaration_stages;
 pub mod declarations;
 pub mod levels;
+pub mod stages;
 pub mod tokens;
 pub mod types;
 
@@ -26,5 +28,7 @@ pub use declarations::{
 pub use tokens::{Keyword, Number, Sign, SoftKeyword, Token, TokenKind};
 pub use types::TypeReference;
 
+#[cfg(test)]
+mod stage_tests;
 #[cfg(test)]
 mod tests;

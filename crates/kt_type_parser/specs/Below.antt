@@ -36,3 +36,7 @@ suspend_ahead = token (is_soft_keyword soft.Suspend) >> ahead (is_sign sign.Open
 abbrev pub only_one : {A : Type 0} → List A → Option A
 only_one (a ∷ []) = Some a
 only_one _ = None
+
+-- a type that is written where one may be absent
+abbrev pub some_type : ℕ → Parser Token (Option TypeTree)
+some_type room = type_parser room >>= (λ t. pure (Some t))

@@ -7,9 +7,10 @@ ghost use Rattle.kt_grammar.specs.Readers as readers;
 ghost use Rattle.kt_grammar.specs.Readers.{type_parser};
 ghost use Rattle.kt_grammar.specs.Parsers.{some_levels};
 ghost use Rattle.kt_tree.specs.Tokens.{is_sign};
-ghost use Rattle.kt_tree.specs.Types.{type_tree, types_of};
+ghost use Rattle.kt_tree.specs.declared.tokens.Sign.TheVariants as sign;
+ghost use Rattle.kt_tree.specs.Types.{maybe_type, type_tree, types_of};
 ghost use Rattle.kt_steps.specs.Steps.{ReadsAs, Tries};
-ghost use Rattle.kt_type_parser.specs.Below.{ReadsBelow, suspend_ahead, only_one, behind_name, named_or_nullable};
+ghost use Rattle.kt_type_parser.specs.Below.{ReadsBelow, some_type, suspend_ahead, only_one, behind_name, named_or_nullable};
 ghost use Rattle.std.specs.Prelude.{◌≡◌, map};
 
 use kt_base::Name;
@@ -89,7 +90,7 @@ impl<F: Fn(Global, u32, &mut Tokens<'_>) -> Result<TypeReference, ParseError>> T
         match self.arguments(tokens) {
             Ok(arguments) => Ok(named(name, arguments)),
             Err(ParseError::Refused) => {
-                tokens.go_back(place);
+                tokens.go_to(place);
                 Ok(named(name, Items::new(self.alloc)))
             }
             Err(ParseError::NoMemory) => Err(ParseError::NoMemory),
@@ -198,7 +199,7 @@ fn suspends(tokens: &mut Tokens<'_>) -> bool
             if sign_ahead(tokens, Sign::OpenParenthesis) {
                 true
             } else {
-                tokens.go_back(place);
+                tokens.go_to(place);
                 false
             }
         }
@@ -278,4 +279,30 @@ pub fn named_type(
         read: read_type,
     }
     .named(tokens)
+}
+
+/// `(':' type)?`, a type of at most `room` levels.
+pub fn annotation(
+    alloc: Global,
+    room: u32,
+    tokens: &mut Tokens<'_>,
+) -> Result<Option<TypeReference>, ParseError>
+    ensures { ReadsAs maybe_type (readers.maybe (is_sign sign.Colon) (type_parser room) tokens.old) result tokens.new }
+{
+    match tokens.sign(Sign::Colon) {
+        Some(_) => annotation_rest(alloc, room, tokens),
+        None => Ok(None),
+    }
+}
+
+/// Behind `:`.
+fn annotation_rest(
+    alloc: Global,
+    room: u32,
+    tokens: &mut Tokens<'_>,
+) -> Result<Option<TypeReference>, ParseError>
+    ensures { ReadsAs maybe_type (some_type room tokens.old) result tokens.new }
+{
+    let written = read_type(alloc, room, tokens)?;
+    Ok(Some(written))
 }

@@ -1,4 +1,4 @@
-use Rattle.kt_steps.proofs.Loops.{none_listed, some_listed}
+use Rattle.kt_steps.proofs.Turning.{none_listed, some_listed}
 use Rattle.kt_steps.proofs.lists.maybe_comma_list.Goals as goal
 
 pub returns-in-Some : goal.returns-in-Some

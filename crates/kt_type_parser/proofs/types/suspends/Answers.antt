@@ -9,8 +9,8 @@ returns-then-sign_ahead c = past_taken _ _ _ _ _ c.in-Some.ensures ∙ c.if-sign
 
 pub returns-else-sign_ahead : goal.returns-else-sign_ahead
 returns-else-sign_ahead c = (
-  past_taken _ _ _ _ _ c.in-Some.ensures ∙ c.if-sign_ahead.ensures.0 ∙ ap (λ (z : Cursor Token). Err z.far) (sym c.go_back.ensures),
-  ap (λ (z : Cursor Token). z.rest) c.go_back.ensures ∙ c.rest-place.ensures,
+  past_taken _ _ _ _ _ c.in-Some.ensures ∙ c.if-sign_ahead.ensures.0 ∙ ap (λ (z : Cursor Token). Err z.far) (sym c.go_to.ensures),
+  ap (λ (z : Cursor Token). z.rest) c.go_to.ensures ∙ c.rest-place.ensures,
 )
 
 pub returns-in-None : goal.returns-in-None

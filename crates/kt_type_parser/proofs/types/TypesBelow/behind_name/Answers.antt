@@ -8,4 +8,4 @@ returns-in-Ok g c = name_then_arguments _ _ (has_room c.args.self.now.room (omeg
 
 pub returns-in-Err-Refused : goal.returns-in-Err-Refused
 returns-in-Err-Refused g c =
-    name_alone _ _ (has_room c.args.self.now.room (omega arith)) _ _ _ (c.in-Err-Refused.ensures {u = tt} (λ z. absurd cc)) _ c.rest-place.ensures _ c.go_back.ensures _ c.new-in-Err-Refused.ensures _ c.named-in-Err-Refused.ensures
+    name_alone _ _ (has_room c.args.self.now.room (omega arith)) _ _ _ (c.in-Err-Refused.ensures {u = tt} (λ z. absurd cc)) _ c.rest-place.ensures _ c.go_to.ensures _ c.new-in-Err-Refused.ensures _ c.named-in-Err-Refused.ensures

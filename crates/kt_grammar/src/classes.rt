@@ -1,0 +1,53 @@
+//! Classes of tokens that productions ask for, beside single signs and words.
+
+ghost use Rattle.kt_grammar.specs.Terminals.{is_of};
+ghost use Rattle.std.specs.Prelude.{◌≡◌};
+
+use kt_tree::{Sign, Token, TokenKind};
+
+/// A class of tokens.
+#[derive(Clone, Copy, Debug, PartialEq, Eq)]
+pub enum TokenClass {
+    /// The end of a line, or `;`.
+    Separator,
+    /// `}`
+    CloseBrace,
+    /// The end of the text.
+    End,
+    /// `(` or `{`: what the arguments of a call begin with.
+    OpensArguments,
+    /// Any token but `->`.
+    NoArrow,
+    /// The `"` that begins a string.
+    OpenQuote,
+    /// The `"` that ends a string.
+    CloseQuote,
+    /// `$` with an identifier, in a string.
+    NamePart,
+    /// `$this`, in a string.
+    ThisPart,
+    /// `${`, in a string.
+    OpenTemplate,
+}
+
+impl TokenClass {
+    /// Whether the token is of the class.
+    pub fn contains(self, token: &Token) -> bool
+        ensures { result ≡ is_of self token.now }
+    {
+        match self {
+            TokenClass::Separator => token.is_new_line() || token.is_sign(Sign::Semicolon),
+            TokenClass::CloseBrace => token.is_sign(Sign::CloseBrace),
+            TokenClass::End => matches!(token.kind, TokenKind::End),
+            TokenClass::OpensArguments => {
+                token.is_sign(Sign::OpenParenthesis) || token.is_sign(Sign::OpenBrace)
+            }
+            TokenClass::NoArrow => !token.is_sign(Sign::Arrow),
+            TokenClass::OpenQuote => matches!(token.kind, TokenKind::OpenQuote),
+            TokenClass::CloseQuote => matches!(token.kind, TokenKind::CloseQuote),
+            TokenClass::NamePart => matches!(token.kind, TokenKind::NamePart(_)),
+            TokenClass::ThisPart => matches!(token.kind, TokenKind::ThisPart),
+            TokenClass::OpenTemplate => matches!(token.kind, TokenKind::OpenTemplate),
+        }
+    }
+}
