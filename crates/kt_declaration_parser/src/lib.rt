@@ -1,0 +1,16 @@
+//! The parser of declarations and files: recursive descent over the cursor of `kt_grammar`.
+#![tactic(auto)]
+
+mod classes;
+mod constants;
+mod files;
+mod functions;
+mod levels;
+mod lists;
+mod modifiers;
+mod parameters;
+
+pub use files::read_file;
+
+#[cfg(test)]
+mod tests;

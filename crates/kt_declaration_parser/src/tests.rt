@@ -1,0 +1,115 @@
+//! Lists of tokens: files with how many declarations they have, and refusals with their place.
+
+use crate::files::read_file;
+use kt_base::{Name, Pos};
+use kt_grammar::{ParseError, Tokens};
+use kt_tree::{Keyword, Number, Sign, Token, TokenKind};
+use std::alloc::Global;
+use std::test::Fail;
+
+/// One letter a token: small letters are identifiers, `O` `A` `S` `D` `R` `N` `K` the words that are modifiers and
+/// beginnings of declarations, `F` `C` `I` `V` `W` keywords.
+fn kind_of(alloc: Global, letter: u8) -> Result<TokenKind, Fail> {
+    Ok(match letter {
+        b'a'..=b'z' => TokenKind::Identifier(Name::of(alloc, &[letter])?),
+        b'O' => TokenKind::Identifier(Name::of(alloc, b"open")?),
+        b'A' => TokenKind::Identifier(Name::of(alloc, b"abstract")?),
+        b'S' => TokenKind::Identifier(Name::of(alloc, b"suspend")?),
+        b'D' => TokenKind::Identifier(Name::of(alloc, b"data")?),
+        b'R' => TokenKind::Identifier(Name::of(alloc, b"override")?),
+        b'N' => TokenKind::Identifier(Name::of(alloc, b"enum")?),
+        b'K' => TokenKind::Identifier(Name::of(alloc, b"const")?),
+        b'F' => TokenKind::Keyword(Keyword::Fun),
+        b'C' => TokenKind::Keyword(Keyword::Class),
+        b'I' => TokenKind::Keyword(Keyword::Interface),
+        b'V' => TokenKind::Keyword(Keyword::Val),
+        b'W' => TokenKind::Keyword(Keyword::Var),
+        b'0'..=b'9' => TokenKind::Number(Number {
+            value: Some(1),
+            long: false,
+        }),
+        b'"' => TokenKind::OpenQuote,
+        b'\'' => TokenKind::CloseQuote,
+        b'~' => TokenKind::Dollar,
+        b',' => TokenKind::Sign(Sign::Comma),
+        b'(' => TokenKind::Sign(Sign::OpenParenthesis),
+        b')' => TokenKind::Sign(Sign::CloseParenthesis),
+        b'{' => TokenKind::Sign(Sign::OpenBrace),
+        b'}' => TokenKind::Sign(Sign::CloseBrace),
+        b'<' => TokenKind::Sign(Sign::Less),
+        b'>' => TokenKind::Sign(Sign::Greater),
+        b':' => TokenKind::Sign(Sign::Colon),
+        b';' => TokenKind::Sign(Sign::Semicolon),
+        b'=' => TokenKind::Sign(Sign::Assign),
+        b'-' => TokenKind::Sign(Sign::Minus),
+        b'\n' => TokenKind::NewLine,
+        _ => TokenKind::End,
+    })
+}
+
+/// What a list of tokens reads as.
+#[derive(Clone, Copy, Debug, PartialEq, Eq)]
+enum Reading {
+    /// A file, with so many declarations.
+    Read(usize),
+    /// The index of the furthest token that was examined.
+    Refused(usize),
+}
+
+fn answer(alloc: Global, letters: &[u8]) -> Result<Reading, Fail> {
+    let mut tokens = Vec::new(alloc);
+    for letter in letters {
+        tokens.push(Token {
+            kind: kind_of(alloc, *letter)?,
+            pos: Pos { line: 1, column: 1 },
+        })?;
+    }
+    let mut cursor = Tokens::new(tokens.as_slice());
+    match read_file(alloc, &mut cursor) {
+        Ok(declarations) => Ok(Reading::Read(declarations.len())),
+        Err(ParseError::Refused) => Ok(Reading::Refused(tokens.len().saturating_sub(cursor.far()))),
+        Err(ParseError::NoMemory) => Err(Fail::from(std::alloc::AllocError)),
+    }
+}
+
+#[test]
+fn files_are_read(rt: HostRuntime) -> Result<(), Fail> {
+    let alloc = rt.alloc();
+    assert_eq!(rt; answer(alloc, b".")?, Reading::Read(0));
+    assert_eq!(rt; answer(alloc, b"AFf().")?, Reading::Read(1));
+    assert_eq!(rt;
+        answer(alloc, b"SAF<t,u:v>f(a:t,b:u<t>):v\nACc.")?,
+        Reading::Read(2)
+    );
+    assert_eq!(rt;
+        answer(alloc, b"OCc<t>(Va:t,Wb:t,d:t):\na<t>,\nb{;AOFf()\n}.")?,
+        Reading::Read(1)
+    );
+    assert_eq!(rt; answer(alloc, b"DCc\n{}.")?, Reading::Read(1));
+    assert_eq!(rt;
+        answer(alloc, b"Ii<t>:a,b<t>{Ff(a:t):t;SFg()};Ij.")?,
+        Reading::Read(2)
+    );
+    assert_eq!(rt; answer(alloc, b"NCe\n{\na\n,\nb\n}.")?, Reading::Read(1));
+    assert_eq!(rt;
+        answer(alloc, b"KVa:i=-1\nKVb=\n\"~~'\nKVc=1.")?,
+        Reading::Read(3)
+    );
+    Ok(())
+}
+
+#[test]
+fn no_files_are_refused(rt: HostRuntime) -> Result<(), Fail> {
+    let alloc = rt.alloc();
+    assert_eq!(rt; answer(alloc, b"")?, Reading::Refused(0));
+    assert_eq!(rt; answer(alloc, b"AAFf().")?, Reading::Refused(1));
+    assert_eq!(rt; answer(alloc, b"AFf(a:t,).")?, Reading::Refused(8));
+    assert_eq!(rt; answer(alloc, b"AFf()Cc.")?, Reading::Refused(5));
+    assert_eq!(rt; answer(alloc, b"SCc.")?, Reading::Refused(1));
+    assert_eq!(rt; answer(alloc, b"Cc{AF<t>f()}.")?, Reading::Refused(5));
+    assert_eq!(rt; answer(alloc, b"Ii{Ff(){}}.")?, Reading::Refused(7));
+    assert_eq!(rt; answer(alloc, b"NCe{}.")?, Reading::Refused(4));
+    assert_eq!(rt; answer(alloc, b"KWa=1.")?, Reading::Refused(1));
+    assert_eq!(rt; answer(alloc, b"KVa=b.")?, Reading::Refused(4));
+    Ok(())
+}

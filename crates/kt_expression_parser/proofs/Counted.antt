@@ -1,0 +1,30 @@
+-- Levels that are counted in 32 bits, beside levels of which fewer are left.
+use Rattle.std.proofs.Common.{◌≡◌, ℕ, zero, suc, ◌+◌, ◌<◌, ◌^◌, max, min, List, [], ◌∷◌, ◌++◌, map, nat_le, nat_lt, refl, ap, sym, ◌∙◌, arith}
+use Rattle.std.proofs.lemmas.Bool.Decides.{nat_tests}
+use Rattle.kt_tree.specs.declared.bodies.StringPart.{StringPart}
+use Rattle.kt_tree.specs.Bodies.{PartTree, part_tree, parts_of}
+use Rattle.kt_tree.specs.Levels.{counted, part_levels, parts_levels}
+
+-- what fits into the levels that are left fits as far as it is counted
+pub fits : (n l m : ℕ) → n + 2 < 2 ^ 32 → m ≡ counted l → nat_le m n ≡ nat_lt l (suc n)
+fits n l m small e = grind (arith, nat_tests)
+
+-- the levels of parts with one more behind them
+last_levels : (ps : List PartTree) (p : PartTree) → parts_levels (parts_of (ps ++ p ∷ [])) ≡ max (part_levels p) (parts_levels (parts_of ps))
+last_levels [] p = refl
+last_levels (q ∷ ps) p = further (last_levels ps p)
+  where
+    further : parts_levels (parts_of (ps ++ p ∷ [])) ≡ max (part_levels p) (parts_levels (parts_of ps)) → max (part_levels q) (parts_levels (parts_of (ps ++ p ∷ []))) ≡ max (part_levels p) (max (part_levels q) (parts_levels (parts_of ps)))
+    further e = omega arith
+
+mapped : (ps : List StringPart) (p : StringPart) → map part_tree (ps ++ p ∷ []) ≡ map part_tree ps ++ part_tree p ∷ []
+mapped [] p = refl
+mapped (q ∷ ps) p = ap (λ (z : List PartTree). part_tree q ∷ z) (mapped ps p)
+
+-- a part more, as it is counted
+pub more_levels : (ps qs : List StringPart) (p : StringPart) (n m : ℕ) → qs ≡ ps ++ p ∷ [] → n ≡ counted (part_levels (part_tree p)) → m ≡ counted (parts_levels (parts_of (map part_tree ps)))
+    → max n m ≡ counted (parts_levels (parts_of (map part_tree qs)))
+more_levels ps qs p n m e en em =
+    let same : parts_levels (parts_of (map part_tree qs)) ≡ max (part_levels (part_tree p)) (parts_levels (parts_of (map part_tree ps)))
+    = ap (λ (z : List StringPart). parts_levels (parts_of (map part_tree z))) e ∙ ap (λ (z : List PartTree). parts_levels (parts_of z)) (mapped ps p) ∙ last_levels (map part_tree ps) (part_tree p) in
+    omega arith

@@ -1,0 +1,139 @@
+//! Lists of tokens: expressions and statements with how many tokens are left, and refusals with their place.
+
+use crate::below::Precedence;
+use crate::levels::{read_expression, read_statement};
+use kt_base::{Name, Pos};
+use kt_grammar::{Context, ParseError, Tokens};
+use kt_tree::{Keyword, Number, Sign, Token, TokenKind};
+use std::alloc::Global;
+use std::test::Fail;
+
+/// One letter a token.
+fn kind_of(alloc: Global, letter: u8) -> Result<TokenKind, Fail> {
+    Ok(match letter {
+        b'a'..=b'z' => TokenKind::Identifier(Name::of(alloc, &[letter])?),
+        b'0'..=b'9' => TokenKind::Number(Number {
+            value: Some(1),
+            long: false,
+        }),
+        b'I' => TokenKind::Keyword(Keyword::If),
+        b'E' => TokenKind::Keyword(Keyword::Else),
+        b'W' => TokenKind::Keyword(Keyword::When),
+        b'V' => TokenKind::Keyword(Keyword::Val),
+        b'B' => TokenKind::Keyword(Keyword::Break),
+        b'L' => TokenKind::Keyword(Keyword::While),
+        b'R' => TokenKind::Keyword(Keyword::Return),
+        b'T' => TokenKind::Keyword(Keyword::Try),
+        b'"' => TokenKind::OpenQuote,
+        b'\'' => TokenKind::CloseQuote,
+        b'$' => TokenKind::OpenTemplate,
+        b'~' => TokenKind::Dollar,
+        b',' => TokenKind::Sign(Sign::Comma),
+        b'(' => TokenKind::Sign(Sign::OpenParenthesis),
+        b')' => TokenKind::Sign(Sign::CloseParenthesis),
+        b'{' => TokenKind::Sign(Sign::OpenBrace),
+        b'}' => TokenKind::Sign(Sign::CloseBrace),
+        b'[' => TokenKind::Sign(Sign::OpenBracket),
+        b']' => TokenKind::Sign(Sign::CloseBracket),
+        b'<' => TokenKind::Sign(Sign::Less),
+        b'>' => TokenKind::Sign(Sign::Greater),
+        b'?' => TokenKind::Sign(Sign::Elvis),
+        b':' => TokenKind::Sign(Sign::Colon),
+        b';' => TokenKind::Sign(Sign::Semicolon),
+        b'@' => TokenKind::Sign(Sign::Arrow),
+        b'.' => TokenKind::Sign(Sign::Dot),
+        b'+' => TokenKind::Sign(Sign::Plus),
+        b'-' => TokenKind::Sign(Sign::Minus),
+        b'*' => TokenKind::Sign(Sign::Times),
+        b'=' => TokenKind::Sign(Sign::Assign),
+        b'|' => TokenKind::Sign(Sign::Either),
+        b'&' => TokenKind::Sign(Sign::Both),
+        b'!' => TokenKind::Sign(Sign::NotNull),
+        b'\n' => TokenKind::NewLine,
+        _ => TokenKind::End,
+    })
+}
+
+/// What a list of tokens reads as, within 200 levels.
+#[derive(Clone, Copy, Debug, PartialEq, Eq)]
+enum Reading {
+    /// A phrase, and the tokens that are left.
+    Read(usize),
+    /// The index of the furthest token that was examined.
+    Refused(usize),
+}
+
+const OUTSIDE: Context = Context {
+    in_loop: false,
+    in_lambda: false,
+};
+
+fn tokens_of(alloc: Global, letters: &[u8]) -> Result<Vec<Token>, Fail> {
+    let mut tokens = Vec::new(alloc);
+    for letter in letters {
+        tokens.push(Token {
+            kind: kind_of(alloc, *letter)?,
+            pos: Pos { line: 1, column: 1 },
+        })?;
+    }
+    Ok(tokens)
+}
+
+fn expression(alloc: Global, letters: &[u8]) -> Result<Reading, Fail> {
+    let tokens = tokens_of(alloc, letters)?;
+    let mut cursor = Tokens::new(tokens.as_slice());
+    match read_expression(alloc, 200, Precedence::Disjunction, OUTSIDE, &mut cursor) {
+        Ok(_) => Ok(Reading::Read(cursor.rest().len())),
+        Err(ParseError::Refused) => Ok(Reading::Refused(tokens.len().saturating_sub(cursor.far()))),
+        Err(ParseError::NoMemory) => Err(Fail::from(std::alloc::AllocError)),
+    }
+}
+
+fn statement(alloc: Global, letters: &[u8]) -> Result<Reading, Fail> {
+    let tokens = tokens_of(alloc, letters)?;
+    let mut cursor = Tokens::new(tokens.as_slice());
+    match read_statement(alloc, 200, OUTSIDE, &mut cursor) {
+        Ok(_) => Ok(Reading::Read(cursor.rest().len())),
+        Err(ParseError::Refused) => Ok(Reading::Refused(tokens.len().saturating_sub(cursor.far()))),
+        Err(ParseError::NoMemory) => Err(Fail::from(std::alloc::AllocError)),
+    }
+}
+
+#[test]
+fn expressions_are_read(rt: HostRuntime) -> Result<(), Fail> {
+    let alloc = rt.alloc();
+    assert_eq!(rt; expression(alloc, b"a+b*c|d&e")?, Reading::Read(0));
+    assert_eq!(rt; expression(alloc, b"a.b(c,1)[d]!{x@y}")?, Reading::Read(0));
+    assert_eq!(rt; expression(alloc, b"a<b>(c)")?, Reading::Read(0));
+    assert_eq!(rt; expression(alloc, b"a<b")?, Reading::Read(0));
+    assert_eq!(rt; expression(alloc, b"\"~$a}~'")?, Reading::Read(0));
+    assert_eq!(rt; expression(alloc, b"I(a)b;Ec")?, Reading::Read(0));
+    assert_eq!(rt;
+        expression(alloc, b"W(a){1,2@b;E@{c\nd}}")?,
+        Reading::Read(0)
+    );
+    assert_eq!(rt; expression(alloc, b"a\n.b")?, Reading::Read(0));
+    assert_eq!(rt; expression(alloc, b"a\nb")?, Reading::Read(2));
+    Ok(())
+}
+
+#[test]
+fn no_expressions_are_refused(rt: HostRuntime) -> Result<(), Fail> {
+    let alloc = rt.alloc();
+    assert_eq!(rt; expression(alloc, b"a+")?, Reading::Refused(2));
+    assert_eq!(rt; expression(alloc, b"(a")?, Reading::Refused(2));
+    assert_eq!(rt; expression(alloc, b"a(b,)")?, Reading::Read(4));
+    assert_eq!(rt; expression(alloc, b"B")?, Reading::Refused(0));
+    assert_eq!(rt; expression(alloc, b"T{a}b")?, Reading::Refused(4));
+    Ok(())
+}
+
+#[test]
+fn statements_are_read(rt: HostRuntime) -> Result<(), Fail> {
+    let alloc = rt.alloc();
+    assert_eq!(rt; statement(alloc, b"Va:b=c")?, Reading::Read(0));
+    assert_eq!(rt; statement(alloc, b"a=b")?, Reading::Read(0));
+    assert_eq!(rt; statement(alloc, b"L(a){B}")?, Reading::Read(0));
+    assert_eq!(rt; statement(alloc, b"{a}")?, Reading::Refused(0));
+    Ok(())
+}
