@@ -4,7 +4,7 @@ ghost use Rattle.jvm_class.specs.ClassFile.{number, AreOfPlain};
 ghost use Rattle.jvm_class.specs.Instructions.{call};
 ghost use Rattle.jvm_pieces.specs.Pieces.{Bytes, Mention, draft, with_piece, with_pieces};
 ghost use Rattle.jvm_pool.specs.Entries.{behind, units};
-ghost use Rattle.std.specs.Prelude.{◌≡◌, ◌+◌, ◌≤◌, ◌∷◌, [], IfOk, OnOk};
+ghost use Rattle.std.specs.Prelude.{◌≡◌, ◌+◌, ◌≤◌, ◌∷◌, [], OnOk};
 
 use jvm_pieces::{put_bytes, put_mention};
 use jvm_pool::{Entry, Pool, PoolErr};

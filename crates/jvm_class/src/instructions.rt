@@ -1,6 +1,6 @@
 //! The instructions of the code.
 
-ghost use Rattle.jvm_class.specs.Instructions.{step_pieces, instructions, IsPlainCode};
+ghost use Rattle.jvm_class.specs.Instructions.{step_pieces, instructions};
 ghost use Rattle.jvm_class.specs.Instructions as definition;
 ghost use Rattle.kt_base.specs.declared.stack_code.Plain.TheVariants as plain;
 ghost use Rattle.jvm_class.specs.ClassFile.{AreOfPlain, widths};

@@ -2,7 +2,7 @@
 
 ghost use Rattle.jvm_class.specs.ClassFile.{IsClassOf};
 ghost use Rattle.jvm_class.specs.Instructions.{IsPlainCode};
-ghost use Rattle.std.specs.Prelude.{◌≡◌, List, length, IfOk, IsTrue, MatchResult};
+ghost use Rattle.std.specs.Prelude.{◌≡◌, List, IfOk, IsTrue, MatchResult};
 
 use crate::error::PlainErr;
 use crate::finding::{MOST_STEPS, code_of};

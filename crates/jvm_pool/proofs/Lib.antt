@@ -1,3 +1,4 @@
+pub mod Closed
 pub mod DescriptorLaws
 pub mod Fronts
 pub mod Growing

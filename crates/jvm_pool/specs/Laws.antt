@@ -1,9 +1,10 @@
 -- Laws of the definitions.
-use Rattle.std.specs.Prelude.{◌≡◌, ◌↔◌, ℕ, List, [], Some}
+use Rattle.std.specs.Prelude.{◌≡◌, ◌↔◌, ℕ, true, List, [], Some}
 use Rattle.jvm_pool.specs.declared.entries.Entry.{Entry}
 use Rattle.jvm_pool.specs.declared.descriptors.Descriptor.{Descriptor}
 use Rattle.jvm_pool.specs.Descriptors.{spelled, IsDescriptor, IsSameDescriptor}
-use Rattle.jvm_pool.specs.Mentions.{seek, with_mention, with_mentions, IsInOrder}
+use Rattle.jvm_pool.specs.Entries.{behind}
+use Rattle.jvm_pool.specs.Mentions.{has, seek, with_mention, with_mentions, IsInOrder}
 use Rattle.jvm_pool.specs.Modified.{modified, IsText}
 use Rattle.jvm_pool.specs.Numbering.{entry_at}
 
@@ -26,3 +27,11 @@ KeptIndices = (es : List Entry) (m e : Entry) (i : ℕ) → seek 1 es e ≡ Some
 -- in a pool that grew from mentions each entry has one index, at which it starts
 abbrev pub OneIndex : Type 0
 OneIndex = (ms : List Entry) (e : Entry) (i : ℕ) → (seek 1 (with_mentions ms []) e ≡ Some i) ↔ (entry_at 1 (with_mentions ms []) i ≡ Some e)
+
+-- in a pool that grew from mentions each entry that was mentioned has an index
+abbrev pub MentionsStand : Type 0
+MentionsStand = (ms : List Entry) (m : Entry) → has ms m ≡ true → (i : ℕ) × (seek 1 (with_mentions ms []) m ≡ Some i)
+
+-- in a pool that grew from mentions each part of an entry that has an index has one too
+abbrev pub PartsStand : Type 0
+PartsStand = (ms : List Entry) (e p : Entry) (i : ℕ) → seek 1 (with_mentions ms []) e ≡ Some i → has (behind e) p ≡ true → (j : ℕ) × (seek 1 (with_mentions ms []) p ≡ Some j)

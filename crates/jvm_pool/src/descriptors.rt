@@ -1,7 +1,6 @@
 //! Descriptors of fields and methods (JVMS SE 8 §4.3.2, §4.3.3), for the types that the language has.
 
-ghost use Rattle.std.specs.Prelude.{◌≡◌, ◌++◌, length, take, codes, IfOk, OnOk, OnErr};
-ghost use Rattle.std.specs.List.{flat_map};
+ghost use Rattle.std.specs.Prelude.{◌≡◌, ◌++◌, length, IfOk, OnOk, OnErr};
 ghost use Rattle.std.specs.Str.{IsAscii};
 
 use crate::spelling;

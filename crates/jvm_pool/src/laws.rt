@@ -1,6 +1,6 @@
 //! Laws of the definitions, each the contract of a function that does nothing.
 
-ghost use Rattle.jvm_pool.specs.Laws.{KeptIndices, OneDescriptor, OneIndex, OneOrder, OneText};
+ghost use Rattle.jvm_pool.specs.Laws.{KeptIndices, MentionsStand, OneDescriptor, OneIndex, OneOrder, OneText, PartsStand};
 
 /// In modified UTF-8 no two texts have the same spelling.
 pub fn one_text()
@@ -26,4 +26,14 @@ pub fn kept_indices()
 /// In a pool that grew from mentions each entry has one index, at which it starts.
 pub fn one_index()
     ensures { OneIndex }
+{}
+
+/// In a pool that grew from mentions each entry that was mentioned has an index.
+pub fn mentions_stand()
+    ensures { MentionsStand }
+{}
+
+/// In a pool that grew from mentions each part of an entry that has an index has one too.
+pub fn parts_stand()
+    ensures { PartsStand }
 {}

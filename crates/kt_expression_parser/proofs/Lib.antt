@@ -1,11 +1,2 @@
 pub mod Depth
-pub mod Counted
-pub mod Parting
-pub mod FoundPart
-pub mod OneTurn
-pub mod SeenBehind
-pub mod Suffixed
-pub mod Entries
-pub mod Optional
-pub mod Tried
 pub mod LoopBody

@@ -1,48 +1,19 @@
 //! Expressions and statements of each number of levels.
 
-ghost use Rattle.kt_expression_parser.specs.Below.{AreRead};
+ghost use Rattle.kt_block_parser.specs.Rules.{expression};
 ghost use Rattle.kt_grammar.specs.StatementParser.{parsers};
 ghost use Rattle.kt_steps.specs.Steps.{ReadsAs};
 ghost use Rattle.kt_tree.specs.Bodies.{expression_tree, statement_tree};
-ghost use Rattle.kt_expression_parser.specs.Rules.{expression, whole_expression};
 ghost use Rattle.kt_grammar.specs.ExpressionParser as parser;
 ghost use Rattle.kt_tree.specs.Bodies.{block_tree};
 ghost use Rattle.std.specs.Prelude.{◌+◌, ◌<◌, ◌^◌};
 
-use crate::below::{Below, Precedence};
+use crate::statements::Statements;
+use kt_block_parser::{Below, Precedence};
 use kt_grammar::{Context, ParseError, Tokens};
+use kt_operator_parser::Operators;
 use kt_tree::{Block, Expression, Statement};
 use std::alloc::Global;
-
-impl<
-    E: Fn(Global, u32, Precedence, Context, &mut Tokens<'_>) -> Result<Expression, ParseError>
-        + Copy,
-    S: Fn(Global, u32, Context, &mut Tokens<'_>) -> Result<Statement, ParseError> + Copy,
-> Below<E, S> {
-    /// An expression of one level more than it may hold.
-    fn whole_expression(
-        &self,
-        precedence: Precedence,
-        at: Context,
-        tokens: &mut Tokens<'_>,
-    ) -> Result<Expression, ParseError>
-        requires { AreRead self.now.room (E.pre self.now.expression) (E.post self.now.expression) (S.pre self.now.statement) (S.post self.now.statement) }
-        ensures { ReadsAs expression_tree (whole_expression precedence self.now.room at tokens.old) result tokens.new }
-    {
-        match precedence {
-            Precedence::Disjunction => self.disjunction(at, tokens),
-            Precedence::Conjunction => self.conjunction(at, tokens),
-            Precedence::Equality => self.equality(at, tokens),
-            Precedence::Comparison => self.comparison(at, tokens),
-            Precedence::Test => self.test(at, tokens),
-            Precedence::Infix => self.infixed(at, tokens),
-            Precedence::Additive => self.additive(at, tokens),
-            Precedence::Multiplicative => self.multiplicative(at, tokens),
-            Precedence::Cast => self.cast(at, tokens),
-            Precedence::Prefix => self.prefix(at, tokens),
-        }
-    }
-}
 
 /// An expression of at most `room` levels.
 #[cycle(phrases)]
@@ -59,13 +30,13 @@ pub fn read_expression(
     if room == 0 {
         return Err(tokens.refuse());
     }
-    Below {
+    let below = Below {
         alloc,
         room: room - 1,
         expression: read_expression,
         statement: read_statement,
-    }
-    .whole_expression(precedence, at, tokens)
+    };
+    Operators { below }.whole_expression(precedence, at, tokens)
 }
 
 /// An expression of at most `room` levels, with any operators.
@@ -95,13 +66,13 @@ pub fn read_statement(
     if room == 0 {
         return Err(tokens.refuse());
     }
-    Below {
+    let below = Below {
         alloc,
         room: room - 1,
         expression: read_expression,
         statement: read_statement,
-    }
-    .whole_statement(at, tokens)
+    };
+    Statements { below }.whole_statement(at, tokens)
 }
 
 /// `'{' statements '}'`, each statement of at most `room` levels.

@@ -1,23 +1,23 @@
 //! Statements.
 
-ghost use Rattle.kt_expression_parser.specs.Below.{AreRead};
-ghost use Rattle.kt_grammar.specs.Declarations.{outside};
-ghost use Rattle.kt_grammar.specs.StatementParser.{parsers};
+ghost use Rattle.kt_block_parser.specs.Below.{AreRead};
 ghost use Rattle.kt_steps.specs.Steps.{ReadsAs};
 ghost use Rattle.kt_tree.specs.Bodies as tree;
 ghost use Rattle.kt_tree.specs.Bodies.{body_tree, expression_tree, statement_tree};
 ghost use Rattle.kt_expression_parser.specs.Rules as rules;
 ghost use Rattle.kt_grammar.specs.Levels as grammar;
 ghost use Rattle.kt_grammar.specs.Readers.{meant};
+ghost use Rattle.kt_grammar.specs.Statements as sentences;
 ghost use Rattle.kt_grammar.specs.Terminals as terminals;
 ghost use Rattle.kt_grammar.specs.Terminals.{range_of};
 ghost use Rattle.kt_steps.specs.Chosen.{found_token};
 ghost use Rattle.std.specs.Prelude.{◌≡◌, IfOk, option_map};
 
-use crate::below::{Below, Precedence};
 use kt_base::NoMemory;
+use kt_block_parser::{Below, Precedence};
 use kt_grammar::{Context, ParseError, Tokens};
 use kt_nodes::statements::{assign, do_while, evaluate, for_loop, local, step, while_loop};
+use kt_operator_parser::Operators;
 use kt_steps::{
     expect, expect_identifier, expect_keyword, keyword_if, name_of, sign_ahead, sign_if,
     take_assignment_operator, take_range_operator, take_step_operator, take_variable,
@@ -29,9 +29,16 @@ use kt_tree::{
 use kt_type_parser::annotation;
 use std::alloc::Global;
 
+/// The parser of the statements that hold phrases of at most `room` levels.
+#[derive(Clone, Copy)]
+pub struct Statements<E, S> {
+    /// Where it stands, and what reads the levels below.
+    pub below: Below<E, S>,
+}
+
 /// In the body of a loop.
 fn in_loop(at: Context) -> Context
-    ensures { result ≡ rules.in_loop at }
+    ensures { result ≡ sentences.in_loop at }
 {
     Context {
         in_loop: true,
@@ -53,15 +60,15 @@ impl<
     E: Fn(Global, u32, Precedence, Context, &mut Tokens<'_>) -> Result<Expression, ParseError>
         + Copy,
     S: Fn(Global, u32, Context, &mut Tokens<'_>) -> Result<Statement, ParseError> + Copy,
-> Below<E, S> {
+> Statements<E, S> {
     /// A declaration of a variable, a loop, or an expression with what may stand behind it.
     pub(crate) fn whole_statement(
         &self,
         at: Context,
         tokens: &mut Tokens<'_>,
     ) -> Result<Statement, ParseError>
-        requires { AreRead self.now.room (E.pre self.now.expression) (E.post self.now.expression) (S.pre self.now.statement) (S.post self.now.statement) }
-        ensures { ReadsAs statement_tree (rules.statement self.now.room at tokens.old) result tokens.new }
+        requires { AreRead self.now.below.room (E.pre self.now.below.expression) (E.post self.now.below.expression) (S.pre self.now.below.statement) (S.post self.now.below.statement) }
+        ensures { ReadsAs statement_tree (rules.statement self.now.below.room at tokens.old) result tokens.new }
     {
         match take_variable(true, tokens) {
             Some((token, variable)) => self.local_rest(token, variable, at, tokens),
@@ -71,10 +78,10 @@ impl<
 
     /// A statement that declares no variable.
     fn unlocal(&self, at: Context, tokens: &mut Tokens<'_>) -> Result<Statement, ParseError>
-        requires { AreRead self.now.room (E.pre self.now.expression) (E.post self.now.expression) (S.pre self.now.statement) (S.post self.now.statement) }
-        ensures { ReadsAs statement_tree (rules.unlocal self.now.room at tokens.old) result tokens.new }
+        requires { AreRead self.now.below.room (E.pre self.now.below.expression) (E.post self.now.below.expression) (S.pre self.now.below.statement) (S.post self.now.below.statement) }
+        ensures { ReadsAs statement_tree (rules.unlocal self.now.below.room at tokens.old) result tokens.new }
     {
-        let deep = self.is_deep();
+        let deep = self.below.is_deep();
         match keyword_if(deep, tokens, Keyword::While) {
             Some(token) => self.while_rest(token, at, tokens),
             None => match keyword_if(deep, tokens, Keyword::Do) {
@@ -89,8 +96,8 @@ impl<
 
     /// No statement begins with `{`.
     fn unbraced(&self, at: Context, tokens: &mut Tokens<'_>) -> Result<Statement, ParseError>
-        requires { AreRead self.now.room (E.pre self.now.expression) (E.post self.now.expression) (S.pre self.now.statement) (S.post self.now.statement) }
-        ensures { ReadsAs statement_tree (rules.unbraced self.now.room at tokens.old) result tokens.new }
+        requires { AreRead self.now.below.room (E.pre self.now.below.expression) (E.post self.now.below.expression) (S.pre self.now.below.statement) (S.post self.now.below.statement) }
+        ensures { ReadsAs statement_tree (rules.unbraced self.now.below.room at tokens.old) result tokens.new }
     {
         if begins_with_brace(tokens) {
             return Err(tokens.refuse());
@@ -100,10 +107,14 @@ impl<
 
     /// An expression, and perhaps an assignment or a step behind it.
     fn simple(&self, at: Context, tokens: &mut Tokens<'_>) -> Result<Statement, ParseError>
-        requires { AreRead self.now.room (E.pre self.now.expression) (E.post self.now.expression) (S.pre self.now.statement) (S.post self.now.statement) }
-        ensures { ReadsAs statement_tree (rules.simple self.now.room at tokens.old) result tokens.new }
+        requires { AreRead self.now.below.room (E.pre self.now.below.expression) (E.post self.now.below.expression) (S.pre self.now.below.statement) (S.post self.now.below.statement) }
+        ensures { ReadsAs statement_tree (rules.simple self.now.below.room at tokens.old) result tokens.new }
     {
-        let target = self.disjunction(at, tokens)?;
+        let target = Operators { below: self.below }.whole_expression(
+            Precedence::Disjunction,
+            at,
+            tokens,
+        )?;
         self.assignment_rest(at, target, tokens)
     }
 
@@ -114,15 +125,15 @@ impl<
         target: Expression,
         tokens: &mut Tokens<'_>,
     ) -> Result<Statement, ParseError>
-        requires { AreRead self.now.room (E.pre self.now.expression) (E.post self.now.expression) (S.pre self.now.statement) (S.post self.now.statement) }
-        ensures { ReadsAs statement_tree (rules.assignment_rest self.now.room at (expression_tree target) tokens.old) result tokens.new }
+        requires { AreRead self.now.below.room (E.pre self.now.below.expression) (E.post self.now.below.expression) (S.pre self.now.below.statement) (S.post self.now.below.statement) }
+        ensures { ReadsAs statement_tree (rules.assignment_rest self.now.below.room at (expression_tree target) tokens.old) result tokens.new }
     {
         let assigns = self.assigns(&target);
         match take_assignment_operator(assigns, tokens) {
             Some((_, operator)) => self.assign_rest(at, target, operator, tokens),
             None => match take_step_operator(assigns, tokens) {
-                Some((_, operator)) => Ok(step(self.alloc, target, operator)?),
-                None => Ok(evaluate(self.alloc, target)?),
+                Some((_, operator)) => Ok(step(self.below.alloc, target, operator)?),
+                None => Ok(evaluate(self.below.alloc, target)?),
             },
         }
     }
@@ -135,20 +146,20 @@ impl<
         operator: AssignmentOperator,
         tokens: &mut Tokens<'_>,
     ) -> Result<Statement, ParseError>
-        requires { AreRead self.now.room (E.pre self.now.expression) (E.post self.now.expression) (S.pre self.now.statement) (S.post self.now.statement) }
-        ensures { ReadsAs statement_tree (rules.assign_rest self.now.room at (expression_tree target) operator tokens.old) result tokens.new }
+        requires { AreRead self.now.below.room (E.pre self.now.below.expression) (E.post self.now.below.expression) (S.pre self.now.below.statement) (S.post self.now.below.statement) }
+        ensures { ReadsAs statement_tree (rules.assign_rest self.now.below.room at (expression_tree target) operator tokens.old) result tokens.new }
     {
         tokens.skip_lines();
-        let value = self.part(Precedence::Disjunction, at, tokens)?;
-        Ok(assign(self.alloc, target, operator, value)?)
+        let value = self.below.part(Precedence::Disjunction, at, tokens)?;
+        Ok(assign(self.below.alloc, target, operator, value)?)
     }
 
     /// Whether an assignment may follow: there is a target, and room for a level above it.
     fn assigns(&self, target: &Expression) -> bool
-        requires { AreRead self.now.room (E.pre self.now.expression) (E.post self.now.expression) (S.pre self.now.statement) (S.post self.now.statement) }
-        ensures { result ≡ rules.assigns self.now.room outside (expression_tree target.now) }
+        requires { AreRead self.now.below.room (E.pre self.now.below.expression) (E.post self.now.below.expression) (S.pre self.now.below.statement) (S.post self.now.below.statement) }
+        ensures { result ≡ rules.assigns self.now.below.room (expression_tree target.now) }
     {
-        is_target(target) && self.has_room(target)
+        is_target(target) && self.below.has_room(target)
     }
 
     /// Behind `val` or `var`.
@@ -159,14 +170,21 @@ impl<
         at: Context,
         tokens: &mut Tokens<'_>,
     ) -> Result<Statement, ParseError>
-        requires { AreRead self.now.room (E.pre self.now.expression) (E.post self.now.expression) (S.pre self.now.statement) (S.post self.now.statement) }
-        ensures { ReadsAs statement_tree (rules.local_rest self.now.room at (start.now, variable) tokens.old) result tokens.new }
+        requires { AreRead self.now.below.room (E.pre self.now.below.expression) (E.post self.now.below.expression) (S.pre self.now.below.statement) (S.post self.now.below.statement) }
+        ensures { ReadsAs statement_tree (rules.local_rest self.now.below.room at (start.now, variable) tokens.old) result tokens.new }
     {
         let token = expect_identifier(tokens)?;
-        let name = name_of(self.alloc, token)?;
-        let written = annotation(self.alloc, self.room + 1, tokens)?;
+        let name = name_of(self.below.alloc, token)?;
+        let written = annotation(self.below.alloc, self.below.room + 1, tokens)?;
         let initializer = self.initializer(at, tokens)?;
-        Ok(local(self.alloc, start.pos, variable, name, written, initializer)?)
+        Ok(local(
+            self.below.alloc,
+            start.pos,
+            variable,
+            name,
+            written,
+            initializer,
+        )?)
     }
 
     /// `('=' expr)?`
@@ -175,10 +193,10 @@ impl<
         at: Context,
         tokens: &mut Tokens<'_>,
     ) -> Result<Option<Expression>, ParseError>
-        requires { AreRead self.now.room (E.pre self.now.expression) (E.post self.now.expression) (S.pre self.now.statement) (S.post self.now.statement) }
-        ensures { ReadsAs (option_map expression_tree) (rules.initializer self.now.room at tokens.old) result tokens.new }
+        requires { AreRead self.now.below.room (E.pre self.now.below.expression) (E.post self.now.below.expression) (S.pre self.now.below.statement) (S.post self.now.below.statement) }
+        ensures { ReadsAs (option_map expression_tree) (rules.initializer self.now.below.room at tokens.old) result tokens.new }
     {
-        match sign_if(self.is_deep(), tokens, Sign::Assign) {
+        match sign_if(self.below.is_deep(), tokens, Sign::Assign) {
             Some(_) => self.initial_value(at, tokens),
             None => Ok(None),
         }
@@ -189,11 +207,11 @@ impl<
         at: Context,
         tokens: &mut Tokens<'_>,
     ) -> Result<Option<Expression>, ParseError>
-        requires { AreRead self.now.room (E.pre self.now.expression) (E.post self.now.expression) (S.pre self.now.statement) (S.post self.now.statement) }
-        ensures { ReadsAs (option_map expression_tree) (rules.initial_value self.now.room at tokens.old) result tokens.new }
+        requires { AreRead self.now.below.room (E.pre self.now.below.expression) (E.post self.now.below.expression) (S.pre self.now.below.statement) (S.post self.now.below.statement) }
+        ensures { ReadsAs (option_map expression_tree) (rules.initial_value self.now.below.room at tokens.old) result tokens.new }
     {
         tokens.skip_lines();
-        let value = self.part(Precedence::Disjunction, at, tokens)?;
+        let value = self.below.part(Precedence::Disjunction, at, tokens)?;
         Ok(Some(value))
     }
 
@@ -204,15 +222,15 @@ impl<
         at: Context,
         tokens: &mut Tokens<'_>,
     ) -> Result<Statement, ParseError>
-        requires { AreRead self.now.room (E.pre self.now.expression) (E.post self.now.expression) (S.pre self.now.statement) (S.post self.now.statement) }
-        ensures { ReadsAs statement_tree (rules.while_rest self.now.room at start.now tokens.old) result tokens.new }
+        requires { AreRead self.now.below.room (E.pre self.now.below.expression) (E.post self.now.below.expression) (S.pre self.now.below.statement) (S.post self.now.below.statement) }
+        ensures { ReadsAs statement_tree (rules.while_rest self.now.below.room at start.now tokens.old) result tokens.new }
     {
         expect(tokens, Sign::OpenParenthesis)?;
-        let condition = self.part(Precedence::Disjunction, at, tokens)?;
+        let condition = self.below.part(Precedence::Disjunction, at, tokens)?;
         expect(tokens, Sign::CloseParenthesis)?;
         tokens.skip_lines();
-        let body = self.inner_body(in_loop(at), tokens)?;
-        Ok(while_loop(self.alloc, start.pos, condition, body)?)
+        let body = self.below.inner_body(in_loop(at), tokens)?;
+        Ok(while_loop(self.below.alloc, start.pos, condition, body)?)
     }
 
     /// Behind `do`.
@@ -222,17 +240,17 @@ impl<
         at: Context,
         tokens: &mut Tokens<'_>,
     ) -> Result<Statement, ParseError>
-        requires { AreRead self.now.room (E.pre self.now.expression) (E.post self.now.expression) (S.pre self.now.statement) (S.post self.now.statement) }
-        ensures { ReadsAs statement_tree (rules.do_rest self.now.room at start.now tokens.old) result tokens.new }
+        requires { AreRead self.now.below.room (E.pre self.now.below.expression) (E.post self.now.below.expression) (S.pre self.now.below.statement) (S.post self.now.below.statement) }
+        ensures { ReadsAs statement_tree (rules.do_rest self.now.below.room at start.now tokens.old) result tokens.new }
     {
         tokens.skip_lines();
-        let body = self.block(in_loop(at), tokens)?;
+        let body = self.below.block(in_loop(at), tokens)?;
         tokens.skip_lines();
         expect_keyword(tokens, Keyword::While)?;
         expect(tokens, Sign::OpenParenthesis)?;
-        let condition = self.part(Precedence::Disjunction, at, tokens)?;
+        let condition = self.below.part(Precedence::Disjunction, at, tokens)?;
         expect(tokens, Sign::CloseParenthesis)?;
-        Ok(do_while(self.alloc, start.pos, body, condition)?)
+        Ok(do_while(self.below.alloc, start.pos, body, condition)?)
     }
 
     /// Behind `for`.
@@ -242,8 +260,8 @@ impl<
         at: Context,
         tokens: &mut Tokens<'_>,
     ) -> Result<Statement, ParseError>
-        requires { AreRead self.now.room (E.pre self.now.expression) (E.post self.now.expression) (S.pre self.now.statement) (S.post self.now.statement) }
-        ensures { ReadsAs statement_tree (rules.for_rest self.now.room at start.now tokens.old) result tokens.new }
+        requires { AreRead self.now.below.room (E.pre self.now.below.expression) (E.post self.now.below.expression) (S.pre self.now.below.statement) (S.post self.now.below.statement) }
+        ensures { ReadsAs statement_tree (rules.for_rest self.now.below.room at start.now tokens.old) result tokens.new }
     {
         expect(tokens, Sign::OpenParenthesis)?;
         let variable = expect_identifier(tokens)?;
@@ -259,10 +277,10 @@ impl<
         at: Context,
         tokens: &mut Tokens<'_>,
     ) -> Result<Statement, ParseError>
-        requires { AreRead self.now.room (E.pre self.now.expression) (E.post self.now.expression) (S.pre self.now.statement) (S.post self.now.statement) }
-        ensures { ReadsAs statement_tree (rules.for_range self.now.room at start.now variable.now tokens.old) result tokens.new }
+        requires { AreRead self.now.below.room (E.pre self.now.below.expression) (E.post self.now.below.expression) (S.pre self.now.below.statement) (S.post self.now.below.statement) }
+        ensures { ReadsAs statement_tree (rules.for_range self.now.below.room at start.now variable.now tokens.old) result tokens.new }
     {
-        let first = self.part(Precedence::Additive, at, tokens)?;
+        let first = self.below.part(Precedence::Additive, at, tokens)?;
         let (_, operator) = range_operator(tokens)?;
         self.for_bound(start, variable, first, operator, at, tokens)
     }
@@ -277,10 +295,10 @@ impl<
         at: Context,
         tokens: &mut Tokens<'_>,
     ) -> Result<Statement, ParseError>
-        requires { AreRead self.now.room (E.pre self.now.expression) (E.post self.now.expression) (S.pre self.now.statement) (S.post self.now.statement) }
-        ensures { ReadsAs statement_tree (rules.for_bound self.now.room at start.now variable.now (expression_tree first) operator tokens.old) result tokens.new }
+        requires { AreRead self.now.below.room (E.pre self.now.below.expression) (E.post self.now.below.expression) (S.pre self.now.below.statement) (S.post self.now.below.statement) }
+        ensures { ReadsAs statement_tree (rules.for_bound self.now.below.room at start.now variable.now (expression_tree first) operator tokens.old) result tokens.new }
     {
-        let bound = self.part(Precedence::Additive, at, tokens)?;
+        let bound = self.below.part(Precedence::Additive, at, tokens)?;
         self.for_end(start, variable, first, operator, bound, at, tokens)
     }
 
@@ -295,8 +313,8 @@ impl<
         at: Context,
         tokens: &mut Tokens<'_>,
     ) -> Result<Statement, ParseError>
-        requires { AreRead self.now.room (E.pre self.now.expression) (E.post self.now.expression) (S.pre self.now.statement) (S.post self.now.statement) }
-        ensures { ReadsAs statement_tree (rules.for_end self.now.room at start.now variable.now (expression_tree first) operator (expression_tree bound) tokens.old) result tokens.new }
+        requires { AreRead self.now.below.room (E.pre self.now.below.expression) (E.post self.now.below.expression) (S.pre self.now.below.statement) (S.post self.now.below.statement) }
+        ensures { ReadsAs statement_tree (rules.for_end self.now.below.room at start.now variable.now (expression_tree first) operator (expression_tree bound) tokens.old) result tokens.new }
     {
         expect(tokens, Sign::CloseParenthesis)?;
         self.for_body(start, variable, first, operator, bound, at, tokens)
@@ -313,12 +331,20 @@ impl<
         at: Context,
         tokens: &mut Tokens<'_>,
     ) -> Result<Statement, ParseError>
-        requires { AreRead self.now.room (E.pre self.now.expression) (E.post self.now.expression) (S.pre self.now.statement) (S.post self.now.statement) }
-        ensures { ReadsAs statement_tree (rules.for_body self.now.room at start.now variable.now (expression_tree first) operator (expression_tree bound) tokens.old) result tokens.new }
+        requires { AreRead self.now.below.room (E.pre self.now.below.expression) (E.post self.now.below.expression) (S.pre self.now.below.statement) (S.post self.now.below.statement) }
+        ensures { ReadsAs statement_tree (rules.for_body self.now.below.room at start.now variable.now (expression_tree first) operator (expression_tree bound) tokens.old) result tokens.new }
     {
         tokens.skip_lines();
-        let body = self.inner_body(in_loop(at), tokens)?;
-        Ok(for_variable(self.alloc, start, variable, first, operator, bound, body)?)
+        let body = self.below.inner_body(in_loop(at), tokens)?;
+        Ok(for_variable(
+            self.below.alloc,
+            start,
+            variable,
+            first,
+            operator,
+            bound,
+            body,
+        )?)
     }
 }
 

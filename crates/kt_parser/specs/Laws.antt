@@ -1,7 +1,17 @@
--- Laws of the programs of the first subset.
+-- Laws of sources, of their trees and of their refusals.
 use Rattle.std.specs.Prelude.{◌≡◌, ℕ, List}
-use Rattle.kt_parser.specs.Programs.{Program, values_of, IsFirst}
+use Rattle.kt_base.specs.declared.refusals.Refusal.{Refusal}
+use Rattle.kt_tree.specs.Declarations.{DeclarationTree}
+use Rattle.kt_parser.specs.Refusals.{IsTreeOf, IsRefused}
 
--- a text has one meaning
-abbrev pub OneMeaning : Type 0
-OneMeaning = (text : List ℕ) (p q : Program) → IsFirst text p → IsFirst text q → values_of p ≡ values_of q
+-- a source has one tree at most
+abbrev pub OneSourceTree : Type 0
+OneSourceTree = (source : List ℕ) (a b : List DeclarationTree) → IsTreeOf source a → IsTreeOf source b → a ≡ b
+
+-- a source is refused in one way at most
+abbrev pub OneSourceRefusal : Type 0
+OneSourceRefusal = (source : List ℕ) (r s : Refusal) → IsRefused source r → IsRefused source s → r ≡ s
+
+-- a source that has a tree isn't refused
+abbrev pub TreeExcludesRefusal : Type 0
+TreeExcludesRefusal = (source : List ℕ) (file : List DeclarationTree) (r : Refusal) → IsTreeOf source file → IsRefused source r → ⊥

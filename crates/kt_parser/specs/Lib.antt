@@ -1,8 +1,3 @@
-pub mod Answers
-pub mod Loops
-pub mod Parsing
-pub mod Programs
-pub mod Scanning
-pub mod Texts
-pub mod Words
+pub mod Trees
+pub mod Refusals
 pub mod Laws

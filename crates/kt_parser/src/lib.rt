@@ -1,12 +1,15 @@
-//! The parser.
-//!
-//! Today it reads the first subset of the language: programs that print numbers.
+//! From the bytes of a source text, or from its tokens, to its tree.
 #![tactic(auto)]
 
-pub mod first;
+mod laws;
+mod sources;
+mod trees;
 
-pub use first::laws::one_meaning;
-pub use first::reading::{FirstErr, parse_first};
+pub use laws::{one_source_refusal, one_source_tree, tree_excludes_refusal};
+pub use sources::read_source;
+pub use trees::parse;
 
 #[cfg(test)]
-mod table_tests;
+mod table;
+#[cfg(test)]
+mod tests;

@@ -1,12 +1,12 @@
 -- A choice reads what the part reads that it chooses.
-use Rattle.std.proofs.Common.{◌≡◌, Bool, true, false, List, Option, Some, None, Result, Ok, Err, refl, ap, sym, subst, ◌∙◌, is_some}
+use Rattle.std.proofs.Common.{◌≡◌, Bool, true, false, List, Some, None, Result, Err, refl, ap, sym, subst, ◌∙◌}
 use Rattle.kt_grammar.specs.declared.error.ParseError.{ParseError}
 use Rattle.kt_tree.specs.declared.tokens.Token.{Token}
 use Rattle.kt_grammar.specs.Parsers.{Cursor, Parser, Outcome, ◌>>=◌, cursor, attempt, attempt_if, on}
 use Rattle.kt_grammar.specs.Readers.{on_if}
 use Rattle.kt_grammar.specs.Cursors.{Turned}
 use Rattle.kt_grammar.proofs.Turns.{on_taken, on_missed}
-use Rattle.kt_steps.specs.Steps.{ReadsAs, Finds}
+use Rattle.kt_steps.specs.Steps.{ReadsAs}
 use Rattle.kt_steps.specs.Chosen.{TurnedIf, FindsIf}
 use Rattle.kt_steps.proofs.Ways.{reads_from, attempt_ok, attempt_err}
 

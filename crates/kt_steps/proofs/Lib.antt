@@ -3,3 +3,4 @@ pub mod SeparatedItems
 pub mod Turning
 pub mod Ways
 pub mod Choosing
+pub mod Optional

@@ -1,5 +1,5 @@
 -- What functions say that take a part where it is allowed and stands.
-use Rattle.std.specs.Prelude.{◌≡◌, Bool, true, false, Option, Some, None, Result, Ok, Err}
+use Rattle.std.specs.Prelude.{◌≡◌, Bool, true, false, Option, None}
 use denote.Ref.{Bor}
 use Rattle.kt_tree.specs.declared.tokens.Token.{Token}
 use Rattle.kt_grammar.specs.Parsers.{Cursor, Parser}

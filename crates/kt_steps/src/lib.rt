@@ -16,8 +16,8 @@ pub use loops::{Turn, repeat};
 pub use meanings::BinaryLevel;
 pub use node::Node;
 pub use steps::{
-    class_ahead, expect, expect_identifier, expect_keyword, expect_meant, expect_soft_keyword,
-    meant, meant_text, name_of, sign_ahead,
+    class_ahead, expect, expect_identifier, expect_keyword, expect_soft_keyword, meant, meant_text,
+    name_of, sign_ahead,
 };
 pub use takes::{
     meant_if, take_assignment_operator, take_binary_operator, take_cast, take_literal, take_member,

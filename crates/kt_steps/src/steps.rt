@@ -133,20 +133,6 @@ pub fn meant_text<'a>(tokens: &mut Tokens<'a>) -> Result<Option<(&'a Token, Text
     }
 }
 
-/// The next token and what it stands for, which is to be something.
-pub fn expect_meant<'a, A: Drop, F: Fn(&Token) -> Option<A>>(
-    tokens: &mut Tokens<'a>,
-    of: &F,
-) -> Result<(&'a Token, A), ParseError>
-    requires { F.IsAlwaysCallable of.now }
-    ensures { (m : Meaning A) → EachMeans m (F.post of.now) → ReadsAs (λ found. (found.0.now, found.1)) (readers.meant m tokens.old) result tokens.new }
-{
-    match meant(tokens, of) {
-        Some(found) => Ok(found),
-        None => Err(ParseError::Refused),
-    }
-}
-
 /// The next token, which is to be this keyword.
 #[tactic(auto, using(kt_grammar::proofs::Turns::token_taken, kt_grammar::proofs::Turns::token_missed))]
 pub fn expect_keyword<'a>(

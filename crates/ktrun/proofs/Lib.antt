@@ -1,3 +1,4 @@
 pub mod Lines
 pub mod Worlds
 pub mod Runs
+pub mod Causes

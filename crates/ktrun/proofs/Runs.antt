@@ -1,11 +1,12 @@
 -- What the clauses of a run stand on.
-use Rattle.std.proofs.Common.{◌≡◌, ◌≤◌, ℕ, ℤ, List, [], ◌∷◌, ◌++◌, length, map, Option, None, Some, Result, Ok, Err, refl, sym, ap, subst, ◌∙◌, arith}
+use Rattle.std.proofs.Common.{◌≡◌, ◌≤◌, ℕ, ℤ, List, [], ◌∷◌, ◌++◌, length, map, Some, Result, Ok, Err, refl, sym, ap, ◌∙◌}
 use Rattle.std.proofs.Math.ListN.{replicate}
 use Rattle.kt_base.specs.declared.stack_code.Plain.{Plain}
 use Rattle.kt_base.specs.declared.events.End.TheVariants as end
 use Rattle.kt_base.specs.declared.events.Halt.TheVariants as halt
 use Rattle.kt_base.specs.StackCode.{Stacked, Prints}
-use Rattle.kt_parser.specs.Programs.{Program, IsFirst, values_of}
+use Rattle.kt_first.specs.Programs.{Program, values_of}
+use Rattle.kt_first.specs.Trees.{IsFirst}
 use Rattle.std.specs.Prelude.{is_some}
 use Rattle.std.specs.Result.{IfOk}
 use Rattle.jvm_class.specs.Instructions.{IsPlainCode}
@@ -29,8 +30,8 @@ prints_one code values others p q =
     ap (λ (s : Stacked). s.printed) same
 
 -- the code of a text can be a class file: it runs, and is short
-pub plain_code : (source : List ℕ) (p : Program) (code : List Plain) → IsFirst source p → length code ≤ length source → Prints code (values_of p) → IsPlainCode code
-plain_code source p code is short prints = record { steps = omega (arith, is.short, short); runs = ap is_some prints }
+pub plain_code : (p : Program) (code : List Plain) → length code ≤ 512 → Prints code (values_of p) → IsPlainCode code
+plain_code p code short prints = record { steps = short; runs = ap is_some prints }
 
 -- the run of a program that prints these values
 pub run_ends : (source : List ℕ) (p : Program) → IsFirst source p → (choices text : List ℕ) → text ≡ text_of (values_of p) → choices ≡ map (λ _. 0) (values_of p)

@@ -1,5 +1,5 @@
 -- The world of a program that prints values and returns.
-use Rattle.std.proofs.Common.{◌≡◌, ℕ, ℤ, suc, List, [], ◌∷◌, ◌++◌, length, map, Option, None, Some, refl, sym, ap, subst, ◌∙◌}
+use Rattle.std.proofs.Common.{◌≡◌, ℕ, ℤ, List, [], ◌∷◌, ◌++◌, length, map, Option, Some, refl, sym, ap, subst, ◌∙◌}
 use Rattle.std.proofs.lemmas.List.{append_assoc, append-nil}
 use Rattle.std.specs.Prelude.{option_and_then, option_map, slice_get}
 use Rattle.kt_base.specs.declared.lumps.Lump.{Lump}
@@ -7,12 +7,10 @@ use Rattle.kt_base.specs.declared.events.Answer.{Answer}
 use Rattle.kt_base.specs.declared.events.Answer.TheVariants as answer
 use Rattle.kt_base.specs.declared.events.End.{End}
 use Rattle.kt_base.specs.declared.events.End.TheVariants as end
-use Rattle.kt_base.specs.declared.events.Halt.{Halt}
 use Rattle.kt_base.specs.declared.events.Halt.TheVariants as halt
-use Rattle.kt_base.specs.declared.events.Start.{Start}
 use Rattle.kt_base.specs.declared.events.Start.TheVariants as start
 use Rattle.kt_base.specs.History.{Entry, History, reply}
-use Rattle.kt_base.specs.Meaning.{Course, Program, next_event}
+use Rattle.kt_base.specs.Meaning.{Program, next_event}
 use Rattle.kt_base.specs.World.{start_of, coroutines, answers_of, step, played, world, stands, halt_of, IsFinal}
 use Rattle.kt_base.specs.Report.{printed, output_text}
 use Rattle.ktrun.specs.FirstRuns.{print_of, text_of, course_of, meaning_of}

@@ -1,5 +1,5 @@
 -- The meaning of a program of the first subset, and how a run of it ends.
-use Rattle.std.specs.Prelude.{◌≡◌, ℕ, ℤ, List, [], ◌∷◌, Option, None, Some}
+use Rattle.std.specs.Prelude.{◌≡◌, ℕ, ℤ, List, [], ◌∷◌, None, Some}
 use Rattle.std.specs.Fmt.{signed_decimal}
 use Rattle.std.specs.List.{flat_map}
 use Rattle.std.specs.Str.{chars}
@@ -14,8 +14,9 @@ use Rattle.kt_base.specs.History.{History}
 use Rattle.kt_base.specs.Meaning.{Course, Program}
 use Rattle.kt_base.specs.World.{world, IsFinal}
 use Rattle.kt_base.specs.Report.{printed, output_text, report, status_of}
-use Rattle.kt_parser.specs.Programs.{values_of, IsFirst}
-use Rattle.kt_parser.specs.Programs as first
+use Rattle.kt_first.specs.Programs.{values_of}
+use Rattle.kt_first.specs.Programs as first
+use Rattle.kt_first.specs.Trees.{IsFirst}
 
 -- a number is printed in decimal
 abbrev pub print_of : ℤ → Event Lump
@@ -32,7 +33,7 @@ course_of (n ∷ values) [] = record { events = print_of n ∷ []; end = None }
 course_of (n ∷ values) (answer ∷ answers) = record { events = print_of n ∷ (course_of values answers).events; end = (course_of values answers).end }
 
 -- the meaning of a program that prints these values: nothing is launched, so that the start is always that of `main`,
--- and at most 512 bytes spend few of the 10,000,000 turns of a coroutine
+-- and at most 512 steps spend few of the 10,000,000 turns of a coroutine
 abbrev pub meaning_of : List ℤ → Program
 meaning_of values start answers = course_of values answers
 

@@ -1,10 +1,8 @@
 //! `ktrun` compiles and runs programs of a subset of Kotlin.
 #![tactic(auto)]
 
-ghost use Rattle.kt_outside.specs.Faults.{Rose};
-ghost use Rattle.ktrun.specs.Statuses.{status_line};
-ghost use Rattle.std.specs.Io.KnownBytes.{Appends};
-ghost use Rattle.std.specs.Prelude.{◌≡◌, ◌≢◌, ◌⊎◌, []};
+ghost use Rattle.ktrun.specs.Statuses.{TookOrFailed, status_line};
+ghost use Rattle.std.specs.Prelude.{◌≡◌, ◌≢◌, []};
 
 mod machine;
 mod plain;
@@ -40,7 +38,7 @@ fn main(rt: HostRuntime) -> ExitCode {
 fn refuse<E: Sink>(err: &mut E, kind: ErrorKind) -> u8
     ensures no_memory { kind ≡ ErrorKind.OutOfMemory → result ≡ 6 }
     ensures usage { kind ≢ ErrorKind.OutOfMemory → result ≡ 2 }
-    ensures line { Appends (E.taken err.old) (E.taken err.new) (status_line result []) ⊎ Rose (E.faults err.old) (E.faults err.new) }
+    ensures line { TookOrFailed (E.taken err.old) (E.taken err.new) (E.faults err.old) (E.faults err.new) (status_line result []) }
 {
     let status = match kind {
         ErrorKind::OutOfMemory => NO_MEMORY,

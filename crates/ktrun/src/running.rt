@@ -4,14 +4,17 @@ ghost use Rattle.std.specs.Prelude.{◌≡◌, ◌≢◌, ℤ, List, [], map, Er
 ghost use Rattle.kt_base.specs.StackCode.{Prints};
 ghost use Rattle.jvm_class.specs.Instructions.{IsPlainCode};
 ghost use Rattle.kt_outside.specs.Faults.{MayAdd, Adds};
-ghost use Rattle.ktrun.specs.FirstRuns.{Ends, IsOfFirst, text_of};
-ghost use Rattle.ktrun.specs.Statuses.{Ran, IsForeign};
+ghost use Rattle.kt_base.specs.declared.refusals.Refusal.{Refusal};
+ghost use Rattle.kt_parser.specs.Refusals.{IsRefused};
+ghost use Rattle.ktrun.specs.FirstRuns.{Ends, text_of};
+ghost use Rattle.ktrun.specs.Statuses.{Ran, IsForeign, HoldsForeign, HoldsRefused};
 
 use crate::machine::{printed_by, text_of};
 use jvm_class::{PlainErr, read_plain, write_plain};
-use kt_base::{NoMemory, Plain};
+use kt_base::{FrontErr, NoMemory, Plain, Refusal};
+use kt_first::{FirstErr, parse_first};
 use kt_outside::{FileErr, Files};
-use kt_parser::{FirstErr, parse_first};
+use kt_parser::read_source;
 use std::alloc::Global;
 
 /// What a run leaves when it has ended.
@@ -28,7 +31,10 @@ pub struct Finished {
 pub enum Stop {
     NoMemory,
     ReadFault,
+    /// The text is of the language, and not of what is built of it.
     NotBuilt,
+    /// The text isn't of the language.
+    Refused(Refusal),
 }
 
 impl From<FileErr> for Stop {
@@ -40,6 +46,19 @@ impl From<FileErr> for Stop {
         match error {
             FileErr::Failed => Stop::ReadFault,
             FileErr::NoMemory => Stop::NoMemory,
+        }
+    }
+}
+
+impl From<FrontErr> for Stop {
+    ghost use Rattle.ktrun.specs.Stops.{stop_of_source};
+
+    ghost from_gives = { λ from to. to ≡ stop_of_source from };
+
+    fn from(error: FrontErr) -> Stop {
+        match error {
+            FrontErr::Refused(refusal) => Stop::Refused(refusal),
+            FrontErr::NoMemory => Stop::NoMemory,
         }
     }
 }
@@ -72,7 +91,8 @@ pub fn run_file<F: Files>(alloc: Global, name: &str, files: &mut F) -> Result<Fi
     ensures ran { IfOk result (λ run. Ran (F.held files.old) name.now run.choices.items run.text.items) }
     ensures read_fault { result ≡ Err Stop.ReadFault → Adds name.now (F.read_faults files.old) (F.read_faults files.new) }
     ensures no_read_fault { result ≢ Err Stop.ReadFault → F.read_faults files.new ≡ F.read_faults files.old }
-    ensures not_built { result ≡ Err Stop.NotBuilt → IsForeign (F.held files.old) name.now }
+    ensures not_built { result ≡ Err Stop.NotBuilt → HoldsForeign (F.held files.old) name.now }
+    ensures refused { (r : Refusal) → result ≡ Err (Stop.Refused r) → HoldsRefused (F.held files.old) name.now r }
     ensures reads_no_other { MayAdd name.now (F.read_faults files.old) (F.read_faults files.new) }
     ensures files_stay { F.held files.new ≡ F.held files.old }
     ensures no_put { F.put_faults files.new ≡ F.put_faults files.old }
@@ -85,9 +105,11 @@ pub fn run_file<F: Files>(alloc: Global, name: &str, files: &mut F) -> Result<Fi
 /// Runs a source text.
 fn run_text(alloc: Global, source: &[u8]) -> Result<Finished, Stop>
     ensures ran { IfOk result (λ run. Ends source.now run.choices.items run.text.items [] 0) }
-    ensures not_built { result ≡ Err Stop.NotBuilt → ¬ (IsOfFirst source.now) }
+    ensures not_built { result ≡ Err Stop.NotBuilt → IsForeign source.now }
+    ensures refused { (r : Refusal) → result ≡ Err (Stop.Refused r) → IsRefused source.now r }
     ensures no_read { result ≢ Err Stop.ReadFault }
 {
+    let _tree = read_source(alloc, source)?;
     let code = parse_first(alloc, source)?;
     let read = through_class(alloc, code.as_slice())?;
     Ok(run_code(alloc, read.as_slice())?)

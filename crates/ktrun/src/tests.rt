@@ -43,21 +43,36 @@ fn sources() -> [(&'static str, &'static str); 22] {
     ]
 }
 
-/// Texts that aren't of the language that is built today.
-fn foreign() -> [&'static str; 12] {
+/// Texts of the language that aren't of what is built of it today.
+fn foreign() -> [&'static str; 9] {
     [
         "",
+        "\nfun main() {}",
+        "fun main()\n{}",
         "fun main() { println(2147483648) }",
         "fun main() { println(1L) }",
-        "fun main() { println(01) }",
         "fun main() { println() }",
         "fun main() { println(-1) }",
-        "fun main() { println(1) println(2) }",
-        "fun main() { println(1 + ) }",
-        "fun main() { println(1)",
-        "fun main() { println(1) /* }",
         "fun main() { val x = 1 }",
         "fun main() { println(\"text\") }",
+    ]
+}
+
+/// Texts that are refused, with the line that tells it.
+fn refused() -> [(&'static str, &'static str); 9] {
+    [
+        ("fun main() { println(1 + ) }", "1:26: Syntax\n"),
+        ("fun main() { println(1) println(2) }", "1:25: Syntax\n"),
+        ("fun main() { println(1)", "1:24: Syntax\n"),
+        (
+            "fun main() {\n    println(1)\n    println(2}\n}\n",
+            "3:14: Syntax\n",
+        ),
+        ("println(1)", "1:1: Syntax\n"),
+        ("fun main() { # }", "1:14: Lex\n"),
+        ("fun main() { println(1) /* }", "1:25: Lex\n"),
+        ("fun main() { println(1) # println( }", "1:25: Lex\n"),
+        ("fun main() { println(01) }", "1:23: Syntax\n"),
     ]
 }
 
@@ -172,6 +187,20 @@ fn other_texts_are_not_built(rt: HostRuntime) -> Result<(), Fail> {
 }
 
 #[test]
+fn texts_are_refused_at_their_place(rt: HostRuntime) -> Result<(), Fail> {
+    for (source, line) in refused() {
+        wrote(
+            &rt,
+            &done(rt.alloc(), "run p.kt", plain(source))?,
+            1,
+            "",
+            line,
+        );
+    }
+    Ok(())
+}
+
+#[test]
 fn other_words_are_refused(rt: HostRuntime) -> Result<(), Fail> {
     for words in no_commands() {
         wrote(
@@ -190,8 +219,8 @@ fn each_print_is_a_choice(rt: HostRuntime) -> Result<(), Fail> {
     let three = "fun main() { println(1); println(2); println(3) }";
     let ran = done(rt.alloc(), "run p.kt", plain(three))?;
     assert_eq!(rt; ran.outcome.choices.as_slice(), [0, 0, 0].as_slice());
-    let refused = done(rt.alloc(), "run p.kt", plain(""))?;
-    assert!(rt; refused.outcome.choices.is_empty());
+    let empty = done(rt.alloc(), "run p.kt", plain(""))?;
+    assert!(rt; empty.outcome.choices.is_empty());
     Ok(())
 }
 

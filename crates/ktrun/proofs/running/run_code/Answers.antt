@@ -1,4 +1,4 @@
-use Rattle.std.proofs.Common.{◌≡◌, ℕ, List, ℤ, length, sym, ap, ◌∙◌}
+use Rattle.std.proofs.Common.{ℕ, List, ℤ, length, sym, ap, ◌∙◌}
 use Rattle.std.proofs.Math.ListN.{replicate}
 use Rattle.ktrun.specs.FirstRuns.{text_of}
 use Rattle.ktrun.proofs.Runs.{choices_of}

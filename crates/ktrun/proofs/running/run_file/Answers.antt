@@ -1,4 +1,3 @@
-use Rattle.std.proofs.Common.{◌≡◌, List, ℕ, sym, ap, subst, ◌∙◌}
 use Rattle.ktrun.proofs.Runs.{read_ran, told}
 use Rattle.ktrun.proofs.running.run_file.Goals as goal
 
@@ -10,3 +9,7 @@ returns-clause-ran g c =
 pub returns-clause-not_built : goal.returns-clause-not_built
 returns-clause-not_built g c = λ is.
     (c.as_slice.result.now, (λ bytes holds. told bytes (c.in_ok-read.ensures.whole bytes holds) c.new-source.ensures.items c.as_slice.ensures.value), c.run_text.ensures.not_built is)
+
+pub returns-clause-refused : goal.returns-clause-refused
+returns-clause-refused g c r is =
+    (c.as_slice.result.now, (λ bytes holds. told bytes (c.in_ok-read.ensures.whole bytes holds) c.new-source.ensures.items c.as_slice.ensures.value), c.run_text.ensures.refused r is)

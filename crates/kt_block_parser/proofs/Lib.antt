@@ -1,0 +1,4 @@
+pub mod Depth
+pub mod Counted
+pub mod Entries
+pub mod Tried

@@ -1,0 +1,4 @@
+pub mod Programs
+pub mod Trees
+pub mod Answers
+pub mod Laws
