@@ -2,8 +2,6 @@
 
 ghost use Rattle.std.specs.Prelude.{◌≡◌, ◌<◌, ◌^◌, ℕ, List, length, Ok, IfOk, IfErr};
 ghost use Rattle.jvm_instr.specs.Table.{Row};
-ghost use Rattle.jvm_instr.specs.Table.{row_of};
-ghost use Rattle.jvm_instr.specs.Reading.{Gives, row_at};
 ghost use Rattle.jvm_code.specs.Spelling.{spelling};
 ghost use Rattle.jvm_code.specs.Decoding.{Decodes, rows, placed, rows_at, decode_of, IsLaid};
 ghost use Rattle.jvm_code.specs.Refusals.{WhyNot};

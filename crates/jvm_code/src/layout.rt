@@ -1,7 +1,6 @@
 //! Whether a list of instructions is code (JVMS SE 8 §4.9.1).
 
-ghost use Rattle.std.specs.Prelude.{◌≡◌, ◌+◌, ◌≤◌, ◌↔◌, ℕ, List, length, IsTrue};
-ghost use Rattle.jvm_instr.specs.Spelling.{row_bytes, Allowed};
+ghost use Rattle.std.specs.Prelude.{◌+◌, ◌↔◌, IsTrue};
 ghost use Rattle.jvm_code.specs.Spelling.{Follows};
 ghost use Rattle.jvm_code.specs.Decoding.{rows, IsLaid};
 

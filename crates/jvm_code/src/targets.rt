@@ -1,6 +1,6 @@
 //! Whether targets are offsets of instructions within reach (JVMS SE 8 §4.9.1).
 
-ghost use Rattle.std.specs.Prelude.{◌≡◌, ◌==◌, ◌≤◌, ◌<◌, ◌+◌, List, length, map};
+ghost use Rattle.std.specs.Prelude.{◌≡◌, ◌==◌, ◌≤◌, ◌<◌, ◌+◌, map};
 ghost use Rattle.std.specs.List.{list_any, list_all};
 ghost use Rattle.jvm_instr.specs.Table.{row_of, pair_of};
 ghost use Rattle.jvm_code.specs.Decoding.{rows, starts_of, stands, aims, first_bad};

@@ -1,6 +1,6 @@
 //! Whether a row allows the operands of an instruction (JVMS SE 8 §6.5).
 
-ghost use Rattle.std.specs.Prelude.{◌≡◌, ◌+◌, ◌<◌, ◌≤◌, ◌^◌, ◌↔◌, List, length, map, IsTrue};
+ghost use Rattle.std.specs.Prelude.{◌<◌, ◌^◌, ◌↔◌, map, IsTrue};
 ghost use Rattle.std.specs.List.{AllByRecursion};
 ghost use Rattle.jvm_instr.specs.Table.{row_of, table_of, lookup_of, pair_of, IsTable, IsLookup};
 ghost use Rattle.jvm_instr.specs.Spelling.{Ascends, Allowed, Has};

@@ -1,6 +1,6 @@
 //! Numbers and targets at the front of bytes, big-endian.
 
-ghost use Rattle.std.specs.Prelude.{◌≡◌, List, length, ◌+◌, ◌<◌, ◌^◌, Ok, Some};
+ghost use Rattle.std.specs.Prelude.{◌<◌, Ok};
 ghost use Rattle.std.specs.Int.{w16, w32};
 ghost use Rattle.jvm_instr.specs.Reading.{Gives, byte_at, number_at, only_at, count_at, near_at, far_at, zeros_at};
 

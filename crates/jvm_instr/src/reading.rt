@@ -1,6 +1,6 @@
 //! An instruction from the front of bytes.
 
-ghost use Rattle.std.specs.Prelude.{◌≡◌, List, length, ◌+◌, ◌<◌, ◌^◌, Ok, Some, IfOk};
+ghost use Rattle.std.specs.Prelude.{length, ◌<◌, Ok, Some, IfOk};
 ghost use Rattle.jvm_instr.specs.Table.{row_of, operand_shape, constant_shape, stack_shape, shape_of, IsWide, IsCalled, IsInts};
 ghost use Rattle.jvm_instr.specs.Reading.{Gives, wide_at, shaped_at, row_at};
 

@@ -1,6 +1,6 @@
 //! How many bytes an instruction takes (JVMS SE 8 §6.5).
 
-ghost use Rattle.std.specs.Prelude.{◌≡◌, ◌<◌, ◌≤◌, ◌^◌, List, length};
+ghost use Rattle.std.specs.Prelude.{◌≡◌, ◌<◌, ◌≤◌, ◌^◌, length};
 ghost use Rattle.jvm_instr.specs.Table.{row_of, table_of, lookup_of};
 ghost use Rattle.jvm_instr.specs.Spelling.{row_bytes, operand_bytes, Allowed};
 ghost use Rattle.jvm_instr.specs.Widths.{HasOperands};

@@ -1,10 +1,9 @@
 //! The operands of the two switches (JVMS SE 8 §6.5 *tableswitch*, *lookupswitch*).
 
-ghost use Rattle.std.specs.Prelude.{◌≡◌, List, length, ◌+◌, ◌<◌, ◌≤◌, ◌^◌, Ok, Some, map};
-ghost use Rattle.std.specs.Int.{w32, cast_unsigned};
+ghost use Rattle.std.specs.Prelude.{◌≡◌, ◌+◌, ◌<◌, Ok, map};
 ghost use Rattle.jvm_instr.specs.Table.{table_of, lookup_of, pair_of};
 ghost use Rattle.jvm_instr.specs.Spelling.{from_least};
-ghost use Rattle.jvm_instr.specs.Reading.{Gives, far_at, fars_at, pair_at, pairs_at, table_at, lookup_at};
+ghost use Rattle.jvm_instr.specs.Reading.{Gives, fars_at, pair_at, pairs_at, table_at, lookup_at};
 
 use crate::fault::Fault;
 use crate::instr::{LookupSwitch, TableSwitch};

@@ -1,6 +1,6 @@
 //! Instructions to bytes (JVMS SE 8 §6.5).
 
-ghost use Rattle.std.specs.Prelude.{◌≡◌, ◌++◌, ◌∷◌, [], ◌-◌, ◌%◌, ◌+◌, ◌^◌, ◌<◌, length, OnOk, replicate, map};
+ghost use Rattle.std.specs.Prelude.{◌≡◌, ◌++◌, ◌∷◌, [], ◌-◌, ◌%◌, ◌+◌, ◌^◌, ◌<◌, length, OnOk, map};
 ghost use Rattle.std.specs.List.{flat_map};
 ghost use Rattle.std.specs.Int.{w16, w32, to_be_bytes, cast_unsigned};
 ghost use Rattle.jvm_instr.specs.Table.{row_of, table_of, lookup_of, pair_of};

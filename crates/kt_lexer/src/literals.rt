@@ -1,6 +1,6 @@
 //! Character literals and escapes.
 
-ghost use Rattle.std.specs.Prelude.{◌≡◌, ◌≤◌, ◌<◌, length, IsTrue};
+ghost use Rattle.std.specs.Prelude.{◌≡◌, ◌<◌, IsTrue};
 ghost use Rattle.std.specs.Option.{option_map};
 ghost use Rattle.kt_lexer.specs.Lexemes as spec;
 ghost use Rattle.kt_lexer.specs.Scanning as scanning;

@@ -1,6 +1,6 @@
 //! The outside in memory, which tells what it holds. Tests let chosen calls of it fail.
 
-ghost use Rattle.std.specs.Prelude.{◌≡◌, ℕ, ◌+◌, ◌<◌, ◌≤◌, List, [], ◌++◌, Some, None, MatchOption, map, min, length, take, Contains, IfOk, OnErr, OnOk, is_ok, if◌then◌else◌, ◌∷◌, ◌≢◌, position, IsErr};
+ghost use Rattle.std.specs.Prelude.{◌≡◌, ℕ, ◌+◌, ◌<◌, ◌≤◌, List, [], ◌++◌, Some, None, MatchOption, map, OnErr, OnOk, is_ok, if◌then◌else◌, ◌∷◌, ◌≢◌, position, IsErr};
 ghost use Rattle.std.specs.String.{string_bytes};
 ghost use Rattle.kt_outside.specs.Faults.{Rose};
 ghost use Rattle.kt_outside.specs.Memory.{file_named, is_named};

@@ -1,6 +1,6 @@
 //! Writing all of a piece.
 
-ghost use Rattle.std.specs.Prelude.{◌≡◌, ◌≤◌, OnOk, OnErr, take};
+ghost use Rattle.std.specs.Prelude.{◌≡◌, ◌≤◌, OnOk, OnErr};
 ghost use Rattle.std.specs.Io.KnownBytes.{Appends};
 ghost use Rattle.kt_outside.specs.Faults.{Rose};
 ghost use Rattle.kt_outside.specs.Held.{AppendsPrefix};

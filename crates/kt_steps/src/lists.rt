@@ -8,7 +8,7 @@ ghost use Rattle.kt_steps.specs.Steps.{EachReads, Finds, ReadsAs, ended, given, 
 ghost use Rattle.kt_tree.specs.declared.tokens.Sign.TheVariants as sign;
 ghost use Rattle.kt_tree.specs.declared.tokens.Token.{Token};
 ghost use Rattle.kt_tree.specs.Tokens.{is_new_line, is_sign};
-ghost use Rattle.std.specs.Prelude.{◌≡◌, List, map, Ok};
+ghost use Rattle.std.specs.Prelude.{◌≡◌, map, Ok};
 
 use crate::loops::{Turn, repeat};
 use crate::node::Node;

@@ -8,7 +8,7 @@ ghost use Rattle.kt_grammar.specs.Readers.{type_parser};
 ghost use Rattle.kt_grammar.specs.Parsers.{some_levels};
 ghost use Rattle.kt_tree.specs.Tokens.{is_sign};
 ghost use Rattle.kt_tree.specs.declared.tokens.Sign.TheVariants as sign;
-ghost use Rattle.kt_tree.specs.Types.{maybe_type, type_tree, types_of};
+ghost use Rattle.kt_tree.specs.Types.{maybe_type, type_tree};
 ghost use Rattle.kt_steps.specs.Steps.{ReadsAs, Tries};
 ghost use Rattle.kt_type_parser.specs.Below.{ReadsBelow, some_type, suspend_ahead, only_one, behind_name, named_or_nullable};
 ghost use Rattle.std.specs.Prelude.{◌≡◌, map};
