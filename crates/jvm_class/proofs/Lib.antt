@@ -2,6 +2,7 @@ mod Stacks
 mod Grown
 mod Parts
 mod Short
+mod Closed
 mod Pooled
 mod Written
 mod Found

@@ -1,12 +1,12 @@
 -- Pieces one part after the other.
-use Rattle.std.proofs.Common.{◌≡◌, ℕ, ◌+◌, ◌*◌, ◌<◌, ◌≤◌, List, [], ◌∷◌, ◌++◌, length, get_or, drop, refl, sym, ap, ◌∙◌, append_assoc, arith}
+use Rattle.std.proofs.Common.{◌≡◌, ℕ, ◌+◌, ◌<◌, List, [], ◌∷◌, ◌++◌, length, get_or, drop, sym, ap, ◌∙◌, append_assoc, arith}
 use Rattle.std.specs.List.{flat_map}
 use Rattle.std.proofs.lemmas.List.{at_drop_more}
 use Rattle.kt_base.specs.declared.stack_code.Plain.{Plain}
 use Rattle.jvm_pieces.specs.Pieces.{Piece, Bytes, Mention, Draft, with_piece, with_pieces}
 use Rattle.jvm_pieces.proofs.Drafts.{writes_in_parts}
 use Rattle.jvm_class.specs.Instructions.{call, tick, step_pieces, instructions, max_stack}
-use Rattle.jvm_class.specs.ClassFile.{u4, number, width, widths, class_pieces}
+use Rattle.jvm_class.specs.ClassFile.{u4, number, widths, class_pieces}
 use Rattle.jvm_class.specs.Parts.{names, counts, method_front, code_front, ending}
 use Rattle.jvm_pool.specs.declared.entries.Entry.TheVariants.{Utf8}
 use Rattle.std.specs.Prelude.{codes}

@@ -1,11 +1,12 @@
 -- The class file of a program that only prints numbers, byte for byte (JVMS SE 8 §4.1).
-use Rattle.std.specs.Prelude.{◌≡◌, ℕ, ℤ, ◌+◌, ◌^◌, ◌<◌, ◌≤◌, List, [], ◌∷◌, ◌++◌, length, codes, FitsSigned}
+use Rattle.std.specs.Prelude.{◌≡◌, ℕ, ◌+◌, ◌^◌, ◌<◌, true, List, [], ◌∷◌, ◌++◌, length, codes, FitsSigned}
 use Rattle.std.specs.Int.{w16, w32, to_be_bytes, cast_unsigned}
 use Rattle.std.specs.List.{flat_map}
 use Rattle.kt_base.specs.declared.stack_code.Plain.{Plain}
 use Rattle.jvm_pool.specs.declared.entries.Entry.{Entry}
 use Rattle.jvm_pool.specs.declared.entries.Entry.TheVariants.{Utf8, Int, Class, Method, NameAndType}
-use Rattle.jvm_pool.specs.Entries.{units}
+use Rattle.jvm_pool.specs.Entries.{behind, units}
+use Rattle.jvm_pool.specs.Mentions.{has}
 use Rattle.jvm_pool.specs.Modified.{modified}
 use Rattle.jvm_pieces.specs.Pieces.{Piece, Bytes, Mention, index, Spells}
 use Rattle.jvm_class.specs.Instructions.{instructions, max_stack, IsPlainCode}
@@ -39,6 +40,14 @@ IsOfPlain _ = ⊥
 abbrev pub AreOfPlain : List Entry → Type 0
 AreOfPlain [] = Unit {0}
 AreOfPlain (e ∷ es) = IsOfPlain e × AreOfPlain es
+
+-- each part of the entry is among the entries
+abbrev pub HasParts : List Entry → Entry → Type 0
+HasParts es e = (p : Entry) → has (behind e) p ≡ true → has es p ≡ true
+
+-- each part of each entry is among the entries
+abbrev pub IsClosed : List Entry → Type 0
+IsClosed es = (e : Entry) → has es e ≡ true → HasParts es e
 
 -- constant_pool_count and constant_pool
 abbrev pub pool : List Entry → List ℕ

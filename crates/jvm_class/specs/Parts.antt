@@ -1,5 +1,5 @@
 -- The pieces of a class file in the parts in which they are written.
-use Rattle.std.specs.Prelude.{ℕ, ◌+◌, List, [], ◌∷◌, codes}
+use Rattle.std.specs.Prelude.{◌+◌, List, [], ◌∷◌, codes}
 use Rattle.kt_base.specs.declared.stack_code.Plain.{Plain}
 use Rattle.jvm_pool.specs.declared.entries.Entry.TheVariants.{Utf8, Class}
 use Rattle.jvm_pieces.specs.Pieces.{Piece, Bytes, Mention}

@@ -1,6 +1,6 @@
 //! Laws of the definitions, each the contract of a function that does nothing.
 
-ghost use Rattle.jvm_class.specs.Laws.{OneClass, OneCode};
+ghost use Rattle.jvm_class.specs.Laws.{EntriesStand, OneClass, OneCode};
 
 /// Code has one class file.
 pub fn one_class()
@@ -10,4 +10,9 @@ pub fn one_class()
 /// Bytes are the class file of one list of steps at most.
 pub fn one_code()
     ensures { OneCode }
+{}
+
+/// Each entry that a class file mentions is among its entries, and so is each part of one.
+pub fn entries_stand()
+    ensures { EntriesStand }
 {}

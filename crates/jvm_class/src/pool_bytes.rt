@@ -1,12 +1,13 @@
 //! The bytes of a constant pool (JVMS SE 8 §4.4).
 
-ghost use Rattle.jvm_class.specs.ClassFile.{AreOfPlain, IsOfPlain, cp_info, u2};
+ghost use Rattle.jvm_class.specs.ClassFile.{AreOfPlain, HasParts, IsClosed, IsOfPlain, cp_info, u2};
 ghost use Rattle.jvm_class.specs.ClassFile as format;
 ghost use Rattle.jvm_pieces.specs.Pieces.{index};
 ghost use Rattle.jvm_pool.specs.declared.entries.Entry.TheVariants as entry;
 ghost use Rattle.jvm_pool.specs.Entries.{units};
+ghost use Rattle.jvm_pool.specs.Mentions.{has};
 ghost use Rattle.jvm_pool.specs.Modified.{modified};
-ghost use Rattle.std.specs.Prelude.{◌≡◌, ◌+◌, ◌<◌, ◌^◌, ◌∷◌, ◌++◌, length, OnOk};
+ghost use Rattle.std.specs.Prelude.{◌≡◌, ◌+◌, ◌<◌, ◌^◌, ◌∷◌, ◌++◌, length, true, OnOk};
 
 use crate::names::text;
 use jvm_pool::{Entry, Pool, put_modified};
@@ -15,7 +16,8 @@ use std::alloc::Global;
 
 /// Appends the count and the entries.
 pub fn put_pool(pool: &Pool, alloc: Global, into: &mut Vec<u8>) -> Result<(), NoMemory>
-    requires { AreOfPlain pool.now }
+    requires kinds { AreOfPlain pool.now }
+    requires closed { IsClosed pool.now }
     ensures fits { OnOk result (1 + units pool.now < 2 ^ 16) }
     ensures ok { OnOk result (into.new.items ≡ into.old.items ++ format.pool pool.now) }
 {
@@ -28,7 +30,8 @@ pub fn put_pool(pool: &Pool, alloc: Global, into: &mut Vec<u8>) -> Result<(), No
 
 /// Appends an entry of the pool.
 fn put_entry(e: &Entry, pool: &Pool, alloc: Global, into: &mut Vec<u8>) -> Result<(), NoMemory>
-    requires { IsOfPlain e.now }
+    requires kind { IsOfPlain e.now }
+    requires parts { HasParts pool.now e.now }
     ensures { OnOk result (into.new.items ≡ into.old.items ++ cp_info pool.now e.now) }
 {
     match e {
@@ -61,6 +64,7 @@ fn put_method(
     pool: &Pool,
     into: &mut Vec<u8>,
 ) -> Result<(), NoMemory>
+    requires { HasParts pool.now (entry.Method class.now name.now descriptor.now) }
     ensures { OnOk result (into.new.items ≡ into.old.items ++ cp_info pool.now (entry.Method class.now name.now descriptor.now)) }
 {
     let class = Entry::Class(class.clone()?);
@@ -90,17 +94,19 @@ fn put_text_index(
     alloc: Global,
     into: &mut Vec<u8>,
 ) -> Result<(), NoMemory>
+    requires { has pool.now (entry.Utf8 name.now) ≡ true }
     ensures { OnOk result (into.new.items ≡ into.old.items ++ u2 (index pool.now (entry.Utf8 name.now))) }
 {
     let text = text(alloc, name.as_bytes())?;
     put_index(&text, pool, into)
 }
 
-/// Appends the index of an entry.
+/// Appends the index of an entry that is there.
 fn put_index(e: &Entry, pool: &Pool, into: &mut Vec<u8>) -> Result<(), NoMemory>
+    requires { has pool.now e.now ≡ true }
     ensures { OnOk result (into.new.items ≡ into.old.items ++ u2 (index pool.now e.now)) }
 {
-    let index = pool.index_of(e).unwrap_or(0);
+    let index = pool.index_of(e).unwrap();
     into.extend_from_slice(&index.to_be_bytes())?;
     Ok(())
 }

@@ -1,13 +1,19 @@
 use Rattle.std.proofs.Common.{◌∙◌, sym, subst, ap, ◌+◌, get_or, length, arith}
 use Rattle.jvm_pool.specs.Entries.{units}
-use Rattle.jvm_class.specs.ClassFile.{u2, IsOfPlain}
+use Rattle.jvm_class.specs.ClassFile.{HasParts, IsOfPlain, u2}
+use Rattle.jvm_class.proofs.Closed.{entry_there}
 use Rattle.jvm_class.proofs.Pooled.{entry_more, kind_at}
 use Rattle.jvm_class.proofs.pool_bytes.put_pool.Goals as goal
 
-pub put_entry-requires : goal.put_entry-requires
-put_entry-requires c =
+pub put_entry-requires-clause-kind : goal.put_entry-requires-clause-kind
+put_entry-requires-clause-kind c =
     let is = c.e-item.is ∙ ap (λ es. get_or es c.loop-e.e-index c.e-item.result) c.entries-e-items.ensures in
-    subst IsOfPlain (sym is) (kind_at c.args.pool.now c.loop-e.e-index c.e-item.result c.requires (omega (arith, ap length c.entries-e-items.ensures)))
+    subst IsOfPlain (sym is) (kind_at c.args.pool.now c.loop-e.e-index c.e-item.result c.requires.kinds (omega (arith, ap length c.entries-e-items.ensures)))
+
+pub put_entry-requires-clause-parts : goal.put_entry-requires-clause-parts
+put_entry-requires-clause-parts c =
+    let is = c.e-item.is ∙ ap (λ es. get_or es c.loop-e.e-index c.e-item.result) c.entries-e-items.ensures in
+    subst (HasParts c.args.pool.now) (sym is) (c.requires.closed (get_or c.args.pool.now c.loop-e.e-index c.e-item.result) (entry_there c.args.pool.now c.loop-e.e-index c.e-item.result (omega (arith, ap length c.entries-e-items.ensures))))
 
 pub loop-e-preserved : goal.loop-e-preserved
 loop-e-preserved c =

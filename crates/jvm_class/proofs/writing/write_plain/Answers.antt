@@ -1,8 +1,14 @@
-use Rattle.std.proofs.Common.{◌∙◌, ap, subst, ◌++◌, ◌+◌, ◌<◌, ◌^◌}
+use Rattle.std.proofs.Common.{◌∙◌, ap, subst, sym, ◌++◌, ◌+◌, ◌<◌, ◌^◌}
 use Rattle.jvm_pool.specs.Entries.{units}
-use Rattle.jvm_class.specs.ClassFile.{pool}
+use Rattle.jvm_class.specs.ClassFile.{IsClosed, class_pieces, pool}
+use Rattle.jvm_class.proofs.Closed.{draft_closed}
 use Rattle.jvm_class.proofs.Written.{class_written}
 use Rattle.jvm_class.proofs.writing.write_plain.Goals as goal
+
+pub put_pool-requires-clause-closed : goal.put_pool-requires-clause-closed
+put_pool-requires-clause-closed c =
+    let d = c.in_ok-draft.draft in
+    subst IsClosed (sym c.pool.ensures.value) (draft_closed (class_pieces c.args.code.now) d c.in_ok-draft.ensures)
 
 pub returns : goal.returns
 returns c =
