@@ -1,4 +1,5 @@
-//! The outside as the system has it, which tells nothing of what it holds. This is the trusted edge of the program.
+//! The outside as the system has it. Files tell nothing of what they hold, and a stream tells what its writer tells. This is
+//! the trusted edge of the program.
 
 ghost use Rattle.std.specs.Io.KnownBytes.{Appends, Keeps};
 ghost use Rattle.std.specs.Prelude.{◌≡◌, ◌+◌, ◌<◌, ◌≤◌, ℕ, List, [], ◌++◌, None, map, take, length, IfSome};

@@ -26,7 +26,7 @@ pub const READ_FAULT: u8 = 7;
 /// The output can't be written.
 pub const WRITE_FAULT: u8 = 8;
 
-/// The text isn't of the language that is built today.
+/// The text is a file of the language, and isn't in the part of it that is run today.
 pub const NOT_BUILT: u8 = 11;
 
 /// Writes the line of a status, or answers that the stream failed when it had taken a prefix. What is told is the refusal of a
