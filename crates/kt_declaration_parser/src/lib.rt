@@ -11,6 +11,3 @@ mod modifiers;
 mod parameters;
 
 pub use files::read_file;
-
-#[cfg(test)]
-mod tests;

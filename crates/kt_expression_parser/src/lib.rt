@@ -6,6 +6,3 @@ mod statements;
 
 pub use kt_block_parser::Precedence;
 pub use levels::{read_block, read_expression, read_statement, read_whole_expression};
-
-#[cfg(test)]
-mod tests;
