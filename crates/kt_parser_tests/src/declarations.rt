@@ -72,44 +72,48 @@ fn answer(alloc: Global, letters: &[u8]) -> Result<Reading, Fail> {
     }
 }
 
-#[test]
-fn files_are_read(rt: HostRuntime) -> Result<(), Fail> {
-    let alloc = rt.alloc();
-    assert_eq!(rt; answer(alloc, b".")?, Reading::Read(0));
-    assert_eq!(rt; answer(alloc, b"AFf().")?, Reading::Read(1));
-    assert_eq!(rt;
-        answer(alloc, b"SAF<t,u:v>f(a:t,b:u<t>):v\nACc.")?,
-        Reading::Read(2)
-    );
-    assert_eq!(rt;
-        answer(alloc, b"OCc<t>(Va:t,Wb:t,d:t):\na<t>,\nb{;AOFf()\n}.")?,
-        Reading::Read(1)
-    );
-    assert_eq!(rt; answer(alloc, b"DCc\n{}.")?, Reading::Read(1));
-    assert_eq!(rt;
-        answer(alloc, b"Ii<t>:a,b<t>{Ff(a:t):t;SFg()};Ij.")?,
-        Reading::Read(2)
-    );
-    assert_eq!(rt; answer(alloc, b"NCe\n{\na\n,\nb\n}.")?, Reading::Read(1));
-    assert_eq!(rt;
-        answer(alloc, b"KVa:i=-1\nKVb=\n\"~~'\nKVc=1.")?,
-        Reading::Read(3)
-    );
-    Ok(())
+/// Letters, and what their tokens read as.
+type Row = (&'static str, Reading);
+
+fn files() -> &'static [Row] {
+    &[
+        (".", Reading::Read(0)),
+        ("AFf().", Reading::Read(1)),
+        ("SAF<t,u:v>f(a:t,b:u<t>):v\nACc.", Reading::Read(2)),
+        (
+            "OCc<t>(Va:t,Wb:t,d:t):\na<t>,\nb{;AOFf()\n}.",
+            Reading::Read(1),
+        ),
+        ("DCc\n{}.", Reading::Read(1)),
+        ("Ii<t>:a,b<t>{Ff(a:t):t;SFg()};Ij.", Reading::Read(2)),
+        ("NCe\n{\na\n,\nb\n}.", Reading::Read(1)),
+        ("KVa:i=-1\nKVb=\n\"~~'\nKVc=1.", Reading::Read(3)),
+        ("", Reading::Refused(0)),
+        ("AAFf().", Reading::Refused(1)),
+        ("AFf(a:t,).", Reading::Refused(8)),
+        ("AFf()Cc.", Reading::Refused(5)),
+        ("SCc.", Reading::Refused(1)),
+        ("Cc{AF<t>f()}.", Reading::Refused(5)),
+        ("Ii{Ff(){}}.", Reading::Refused(7)),
+        ("NCe{}.", Reading::Refused(4)),
+        ("KWa=1.", Reading::Refused(1)),
+        ("KVa=b.", Reading::Refused(4)),
+    ]
+}
+
+/// The first list that doesn't read as its row says, by its number.
+fn wrong_file(alloc: Global) -> Result<Option<usize>, Fail> {
+    for (number, row) in files().iter().enumerate() {
+        let (letters, wanted) = *row;
+        if answer(alloc, letters.as_bytes())? != wanted {
+            return Ok(Some(number));
+        }
+    }
+    Ok(None)
 }
 
 #[test]
-fn no_files_are_refused(rt: HostRuntime) -> Result<(), Fail> {
-    let alloc = rt.alloc();
-    assert_eq!(rt; answer(alloc, b"")?, Reading::Refused(0));
-    assert_eq!(rt; answer(alloc, b"AAFf().")?, Reading::Refused(1));
-    assert_eq!(rt; answer(alloc, b"AFf(a:t,).")?, Reading::Refused(8));
-    assert_eq!(rt; answer(alloc, b"AFf()Cc.")?, Reading::Refused(5));
-    assert_eq!(rt; answer(alloc, b"SCc.")?, Reading::Refused(1));
-    assert_eq!(rt; answer(alloc, b"Cc{AF<t>f()}.")?, Reading::Refused(5));
-    assert_eq!(rt; answer(alloc, b"Ii{Ff(){}}.")?, Reading::Refused(7));
-    assert_eq!(rt; answer(alloc, b"NCe{}.")?, Reading::Refused(4));
-    assert_eq!(rt; answer(alloc, b"KWa=1.")?, Reading::Refused(1));
-    assert_eq!(rt; answer(alloc, b"KVa=b.")?, Reading::Refused(4));
+fn files_read_as_their_rows(rt: HostRuntime) -> Result<(), Fail> {
+    assert_eq!(rt; wrong_file(rt.alloc())?, None);
     Ok(())
 }

@@ -62,6 +62,9 @@ enum Reading {
     Refused(usize),
 }
 
+/// Letters, and what their tokens read as.
+type Row = (&'static str, Reading);
+
 const OUTSIDE: Context = Context {
     in_loop: false,
     in_lambda: false,
@@ -98,41 +101,64 @@ fn statement(alloc: Global, letters: &[u8]) -> Result<Reading, Fail> {
     }
 }
 
+fn expressions() -> &'static [Row] {
+    &[
+        ("a+b*c|d&e", Reading::Read(0)),
+        ("a.b(c,1)[d]!{x@y}", Reading::Read(0)),
+        ("a<b>(c)", Reading::Read(0)),
+        ("a<b", Reading::Read(0)),
+        ("\"~$a}~'", Reading::Read(0)),
+        ("I(a)b;Ec", Reading::Read(0)),
+        ("W(a){1,2@b;E@{c\nd}}", Reading::Read(0)),
+        ("a\n.b", Reading::Read(0)),
+        ("a\nb", Reading::Read(2)),
+        ("a(b,)", Reading::Read(4)),
+        ("a+", Reading::Refused(2)),
+        ("(a", Reading::Refused(2)),
+        ("B", Reading::Refused(0)),
+        ("T{a}b", Reading::Refused(4)),
+    ]
+}
+
+fn statements() -> &'static [Row] {
+    &[
+        ("Va:b=c", Reading::Read(0)),
+        ("a=b", Reading::Read(0)),
+        ("L(a){B}", Reading::Read(0)),
+        ("{a}", Reading::Refused(0)),
+    ]
+}
+
+/// The first expression that doesn't read as its row says, by its number.
+fn wrong_expression(alloc: Global) -> Result<Option<usize>, Fail> {
+    for (number, row) in expressions().iter().enumerate() {
+        let (letters, wanted) = *row;
+        if expression(alloc, letters.as_bytes())? != wanted {
+            return Ok(Some(number));
+        }
+    }
+    Ok(None)
+}
+
+/// The first statement that doesn't read as its row says, by its number.
+fn wrong_statement(alloc: Global) -> Result<Option<usize>, Fail> {
+    for (number, row) in statements().iter().enumerate() {
+        let (letters, wanted) = *row;
+        if statement(alloc, letters.as_bytes())? != wanted {
+            return Ok(Some(number));
+        }
+    }
+    Ok(None)
+}
+
 #[test]
-fn expressions_are_read(rt: HostRuntime) -> Result<(), Fail> {
-    let alloc = rt.alloc();
-    assert_eq!(rt; expression(alloc, b"a+b*c|d&e")?, Reading::Read(0));
-    assert_eq!(rt; expression(alloc, b"a.b(c,1)[d]!{x@y}")?, Reading::Read(0));
-    assert_eq!(rt; expression(alloc, b"a<b>(c)")?, Reading::Read(0));
-    assert_eq!(rt; expression(alloc, b"a<b")?, Reading::Read(0));
-    assert_eq!(rt; expression(alloc, b"\"~$a}~'")?, Reading::Read(0));
-    assert_eq!(rt; expression(alloc, b"I(a)b;Ec")?, Reading::Read(0));
-    assert_eq!(rt;
-        expression(alloc, b"W(a){1,2@b;E@{c\nd}}")?,
-        Reading::Read(0)
-    );
-    assert_eq!(rt; expression(alloc, b"a\n.b")?, Reading::Read(0));
-    assert_eq!(rt; expression(alloc, b"a\nb")?, Reading::Read(2));
+fn expressions_read_as_their_rows(rt: HostRuntime) -> Result<(), Fail> {
+    assert_eq!(rt; wrong_expression(rt.alloc())?, None);
     Ok(())
 }
 
 #[test]
-fn no_expressions_are_refused(rt: HostRuntime) -> Result<(), Fail> {
-    let alloc = rt.alloc();
-    assert_eq!(rt; expression(alloc, b"a+")?, Reading::Refused(2));
-    assert_eq!(rt; expression(alloc, b"(a")?, Reading::Refused(2));
-    assert_eq!(rt; expression(alloc, b"a(b,)")?, Reading::Read(4));
-    assert_eq!(rt; expression(alloc, b"B")?, Reading::Refused(0));
-    assert_eq!(rt; expression(alloc, b"T{a}b")?, Reading::Refused(4));
-    Ok(())
-}
-
-#[test]
-fn statements_are_read(rt: HostRuntime) -> Result<(), Fail> {
-    let alloc = rt.alloc();
-    assert_eq!(rt; statement(alloc, b"Va:b=c")?, Reading::Read(0));
-    assert_eq!(rt; statement(alloc, b"a=b")?, Reading::Read(0));
-    assert_eq!(rt; statement(alloc, b"L(a){B}")?, Reading::Read(0));
-    assert_eq!(rt; statement(alloc, b"{a}")?, Reading::Refused(0));
+fn statements_read_as_their_rows(rt: HostRuntime) -> Result<(), Fail> {
+    assert_eq!(rt; wrong_statement(rt.alloc())?, None);
     Ok(())
 }
