@@ -1,10 +1,10 @@
 -- Which offsets follow, and the bytes of one instruction more.
 use Rattle.std.proofs.Common.{◌≡◌, ℕ, ◌+◌, ◌<◌, List, [], ◌∷◌, ◌++◌, length, take, get_or, append_assoc, sym, ap, subst, ◌∙◌}
 use Rattle.std.proofs.lemmas.List.{append-nil, map_more}
-use Rattle.jvm_instr.specs.declared.instr.Instr.{Instr}
-use Rattle.jvm_instr.specs.Table.{Row, row_of}
-use Rattle.jvm_instr.specs.Spelling.{row_bytes, Allowed}
-use Rattle.jvm_instr.proofs.Lengths.{Same}
+use Rattle.jvm_code_instructions.specs.declared.instr.Instr.{Instr}
+use Rattle.jvm_code_instructions.specs.Table.{Row, row_of}
+use Rattle.jvm_code_instructions.specs.Spelling.{row_bytes, Allowed}
+use Rattle.jvm_code_instructions.proofs.Lengths.{Same}
 use Rattle.jvm_code.specs.Spelling.{Follows, spelling}
 use Rattle.jvm_code.specs.Decoding.{rows, at_row}
 

@@ -1,15 +1,15 @@
 -- Code that is read is spelled so, and what is spelled so is read.
 use Rattle.std.proofs.Common.{◌≡◌, ℕ, zero, suc, ◌+◌, ◌-◌, ◌^◌, ◌<◌, ◌≤◌, List, [], ◌∷◌, ◌++◌, length, length-append, Result, Ok, Err, refl, sym, ap, subst, ◌∙◌, arith}
-use Rattle.jvm_instr.specs.declared.fault.Fault.{Fault}
+use Rattle.jvm_code_instructions.specs.declared.fault.Fault.{Fault}
 use Rattle.jvm_code.specs.declared.error.CodeErr.{CodeErr}
-use Rattle.jvm_instr.specs.Table.{Row}
-use Rattle.jvm_instr.specs.Spelling.{row_bytes}
+use Rattle.jvm_code_instructions.specs.Table.{Row}
+use Rattle.jvm_code_instructions.specs.Spelling.{row_bytes}
 use Rattle.jvm_code.specs.Spelling.{Follows, spelling}
-use Rattle.jvm_instr.specs.Reach.{Reaches}
-use Rattle.jvm_instr.specs.Reading.{row_at}
+use Rattle.jvm_code_instructions.specs.Reach.{Reaches}
+use Rattle.jvm_code_instructions.specs.Reading.{row_at}
 use Rattle.jvm_code.specs.Decoding.{behind_first, in_front, rows_at}
-use Rattle.jvm_instr.proofs.Fields.{IsBytes}
-use Rattle.jvm_instr.proofs.Instructions.{row_takes, row_again}
+use Rattle.jvm_code_instructions.proofs.Fields.{IsBytes}
+use Rattle.jvm_code_instructions.proofs.Instructions.{row_takes, row_again}
 use Rattle.jvm_code.proofs.Passes.{one_more}
 
 front_ok : (i : ℕ × Row) (r : Result (List (ℕ × Row)) CodeErr) (c : List (ℕ × Row)) → in_front i r ≡ Ok c → (is : List (ℕ × Row)) × (r ≡ Ok is) × (i ∷ is ≡ c)

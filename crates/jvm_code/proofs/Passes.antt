@@ -1,11 +1,11 @@
 -- Reading instructions one after the other, and judging their targets, as loops do.
 use Rattle.std.proofs.Common.{◌≡◌, true, false, Option, Some, None, ℕ, suc, ◌-◌, ◌+◌, ◌<◌, List, [], ◌∷◌, ◌++◌, length, Result, Ok, Err, refl, sym, ap, ◌∙◌, append_assoc, arith}
 use Rattle.std.proofs.lemmas.List.{append-nil}
-use Rattle.jvm_instr.specs.declared.fault.Fault.{Fault}
-use Rattle.jvm_instr.specs.declared.fault.Fault.TheVariants as fault
+use Rattle.jvm_code_instructions.specs.declared.fault.Fault.{Fault}
+use Rattle.jvm_code_instructions.specs.declared.fault.Fault.TheVariants as fault
 use Rattle.jvm_code.specs.declared.error.CodeErr.{CodeErr}
-use Rattle.jvm_instr.specs.Table.{Row}
-use Rattle.jvm_instr.specs.Reading.{row_at, Fails}
+use Rattle.jvm_code_instructions.specs.Table.{Row}
+use Rattle.jvm_code_instructions.specs.Reading.{row_at, Fails}
 use Rattle.jvm_code.specs.Decoding.{aims, first_bad, in_front, behind_first, placed, Refuses, rows_at}
 
 -- what was read before, and what is still to be read

@@ -9,9 +9,9 @@ use Rattle.std.proofs.lemmas.Bool.Decides.{nat_tests}
 use Rattle.std.proofs.lemmas.List.{length-map, get_or-map}
 use Rattle.std.proofs.lemmas.List.Folds.{list_any_at, list_any_none, list_all_at}
 use Rattle.std.proofs.lemmas.List.Kept.{AllPairs-from_increasing}
-use Rattle.jvm_instr.specs.declared.instr.Instr.{Instr}
+use Rattle.jvm_code_instructions.specs.declared.instr.Instr.{Instr}
 use Rattle.jvm_code.specs.Decoding.{at_row, rows, starts_of, stands}
-use Rattle.jvm_instr.specs.Table.{Row, pair_of}
+use Rattle.jvm_code_instructions.specs.Table.{Row, pair_of}
 
 pub length_starts : (code : List (ℕ × Instr)) → length (starts_of (rows code)) ≡ length code
 length_starts code = length-map (rows code) (λ i. i.0) ∙ length-map code _

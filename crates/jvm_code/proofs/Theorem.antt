@@ -6,13 +6,13 @@ use Rattle.std.specs.List.{list_all, AllByRecursion, slice_index}
 use Rattle.std.specs.List.Sorted.{IsStrictlyIncreasing}
 use Rattle.std.proofs.lemmas.Bool.{and_parts, ltb-true}
 use Rattle.jvm_code.specs.declared.error.CodeErr.{CodeErr}
-use Rattle.jvm_instr.specs.declared.instr.Instr.{Instr}
-use Rattle.jvm_instr.specs.Table.{Operands, Nothing, Byte, Half, LocalAmount, Near, Far, Called, Ints, Table, Lookup, Wide, WideAmount, Row}
-use Rattle.jvm_instr.specs.Spelling.{row_bytes}
+use Rattle.jvm_code_instructions.specs.declared.instr.Instr.{Instr}
+use Rattle.jvm_code_instructions.specs.Table.{Operands, Nothing, Byte, Half, LocalAmount, Near, Far, Called, Ints, Table, Lookup, Wide, WideAmount, Row}
+use Rattle.jvm_code_instructions.specs.Spelling.{row_bytes}
 use Rattle.jvm_code.specs.Spelling.{Follows, spelling}
-use Rattle.jvm_instr.specs.Reach.{Reaches, IsWithin}
+use Rattle.jvm_code_instructions.specs.Reach.{Reaches, IsWithin}
 use Rattle.jvm_code.specs.Decoding.{Decodes, rows, rows_at, stands, aims, first_bad, starts_of, judged, with_targets, decode_of, IsLaid}
-use Rattle.jvm_instr.proofs.Fields.{IsBytes}
+use Rattle.jvm_code_instructions.proofs.Fields.{IsBytes}
 use Rattle.jvm_code.proofs.Lists.{code_takes, code_again, AllReach}
 
 stands_within : (starts : List ℕ) (reach at t : ℕ) → stands starts reach at t ≡ true → IsWithin reach at t

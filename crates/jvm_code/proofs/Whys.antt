@@ -3,21 +3,21 @@ use Rattle.std.proofs.Common.{◌≡◌, ℕ, zero, suc, ◌+◌, ◌-◌, ◌^�
 use Rattle.std.specs.Prelude.{IfErr}
 use Rattle.std.specs.Global.{Vec}
 use Rattle.std.proofs.lemmas.List.{take_at, drop_at}
-use Rattle.jvm_instr.specs.declared.fault.Fault.{Fault}
-use Rattle.jvm_instr.specs.declared.fault.Fault.TheVariants as fault
+use Rattle.jvm_code_instructions.specs.declared.fault.Fault.{Fault}
+use Rattle.jvm_code_instructions.specs.declared.fault.Fault.TheVariants as fault
 use Rattle.jvm_code.specs.declared.error.CodeErr.{CodeErr}
 use Rattle.jvm_code.specs.declared.error.CodeErr.TheVariants.{BadOpcode, Cut, BadTarget, NoMemory}
-use Rattle.jvm_instr.specs.declared.instr.Instr.{Instr}
-use Rattle.jvm_instr.specs.Table.{Row}
-use Rattle.jvm_instr.specs.Spelling.{row_bytes}
+use Rattle.jvm_code_instructions.specs.declared.instr.Instr.{Instr}
+use Rattle.jvm_code_instructions.specs.Table.{Row}
+use Rattle.jvm_code_instructions.specs.Spelling.{row_bytes}
 use Rattle.jvm_code.specs.Spelling.{Follows, spelling}
-use Rattle.jvm_instr.specs.Reading.{row_at}
+use Rattle.jvm_code_instructions.specs.Reading.{row_at}
 use Rattle.jvm_code.specs.Decoding.{Decodes, Refuses, rows, behind_first, in_front, placed, rows_at, starts_of, first_bad, judged, with_targets, decode_of}
 use Rattle.jvm_code.specs.Refusals.{Begins, IsReadTo, WhyNot}
-use Rattle.jvm_instr.proofs.Fields.{IsBytes}
-use Rattle.jvm_instr.proofs.Instructions.{row_takes, row_again}
+use Rattle.jvm_code_instructions.proofs.Fields.{IsBytes}
+use Rattle.jvm_code_instructions.proofs.Instructions.{row_takes, row_again}
 use Rattle.jvm_code.proofs.Lists.{code_takes}
-use Rattle.jvm_instr.proofs.Steady.{bad_still}
+use Rattle.jvm_code_instructions.proofs.Steady.{bad_still}
 
 -- where the first pass stopped
 pub record Stops (total : ℕ) (bytes : List ℕ) (e : CodeErr) : Type 0 where

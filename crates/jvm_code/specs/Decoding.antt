@@ -1,14 +1,14 @@
 -- Reading code: opcodes and cuts in one pass from the front, then targets (JVMS SE 8 §4.9.1).
 use Rattle.std.specs.Prelude.{◌≡◌, ℕ, zero, suc, ◌+◌, ◌-◌, ◌&&◌, List, [], ◌∷◌, length, map, nat_lt, Bool, true, Option, Some, None, Result, Ok, Err, ◌==◌, if◌then◌else◌}
 use Rattle.std.specs.List.{list_any, list_all}
-use Rattle.jvm_instr.specs.declared.fault.Fault.{Fault}
-use Rattle.jvm_instr.specs.declared.fault.Fault.TheVariants as fault
+use Rattle.jvm_code_instructions.specs.declared.fault.Fault.{Fault}
+use Rattle.jvm_code_instructions.specs.declared.fault.Fault.TheVariants as fault
 use Rattle.jvm_code.specs.declared.error.CodeErr.{CodeErr}
 use Rattle.jvm_code.specs.declared.error.CodeErr.TheVariants.{BadOpcode, Cut, BadTarget, NoMemory}
-use Rattle.jvm_instr.specs.declared.instr.Instr.{Instr}
-use Rattle.jvm_instr.specs.Table.{Operands, Nothing, Byte, Half, LocalAmount, Near, Far, Called, Ints, Table, Lookup, Wide, WideAmount, Row, row_of}
+use Rattle.jvm_code_instructions.specs.declared.instr.Instr.{Instr}
+use Rattle.jvm_code_instructions.specs.Table.{Operands, Nothing, Byte, Half, LocalAmount, Near, Far, Called, Ints, Table, Lookup, Wide, WideAmount, Row, row_of}
 use Rattle.jvm_code.specs.Spelling.{Follows}
-use Rattle.jvm_instr.specs.Reading.{row_at}
+use Rattle.jvm_code_instructions.specs.Reading.{row_at}
 
 -- ---- code and its rows
 

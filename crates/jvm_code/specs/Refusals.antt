@@ -1,13 +1,13 @@
 -- What it means that bytes are no code.
 use Rattle.std.specs.Prelude.{◌≡◌, ℕ, ◌<◌, List, ◌++◌, length, take, drop, Some, Err}
-use Rattle.jvm_instr.specs.declared.fault.Fault.TheVariants as fault
+use Rattle.jvm_code_instructions.specs.declared.fault.Fault.TheVariants as fault
 use Rattle.jvm_code.specs.declared.error.CodeErr.{CodeErr}
 use Rattle.jvm_code.specs.declared.error.CodeErr.TheVariants.{BadOpcode, Cut, BadTarget, NoMemory}
-use Rattle.jvm_instr.specs.Table.{Row}
-use Rattle.jvm_instr.specs.Spelling.{row_bytes, Allowed}
+use Rattle.jvm_code_instructions.specs.Table.{Row}
+use Rattle.jvm_code_instructions.specs.Spelling.{row_bytes, Allowed}
 use Rattle.jvm_code.specs.Spelling.{Follows, spelling}
-use Rattle.jvm_instr.specs.Reach.{Reaches}
-use Rattle.jvm_instr.specs.Reading.{row_at}
+use Rattle.jvm_code_instructions.specs.Reach.{Reaches}
+use Rattle.jvm_code_instructions.specs.Reading.{row_at}
 use Rattle.jvm_code.specs.Decoding.{starts_of, first_bad}
 
 -- an instruction begins at the front of bytes, which stand at an offset

@@ -1,7 +1,7 @@
 -- What code is, and the bytes that spell it (JVMS SE 8 §4.7.3, §4.9.1).
 use Rattle.std.specs.Prelude.{ℕ, ◌+◌, ◌≡◌, List, [], ◌∷◌, ◌++◌, length}
-use Rattle.jvm_instr.specs.Table.{Row}
-use Rattle.jvm_instr.specs.Spelling.{row_bytes, Allowed}
+use Rattle.jvm_code_instructions.specs.Table.{Row}
+use Rattle.jvm_code_instructions.specs.Spelling.{row_bytes, Allowed}
 
 -- each row allows its operands, and each offset is that of the one before and its size
 abbrev pub Follows : ℕ → List (ℕ × Row) → Type 0

@@ -1,14 +1,14 @@
 //! Bytes to code, in two passes (JVMS SE 8 §4.7.3, §4.9.1).
 
 ghost use Rattle.std.specs.Prelude.{◌≡◌, ◌<◌, ◌^◌, ℕ, List, length, Ok, IfOk, IfErr};
-ghost use Rattle.jvm_instr.specs.Table.{Row};
+ghost use Rattle.jvm_code_instructions.specs.Table.{Row};
 ghost use Rattle.jvm_code.specs.Spelling.{spelling};
 ghost use Rattle.jvm_code.specs.Decoding.{Decodes, rows, placed, rows_at, decode_of, IsLaid};
 ghost use Rattle.jvm_code.specs.Refusals.{WhyNot};
 
 use crate::error::CodeErr;
 use crate::targets::bad_target;
-use jvm_instr::{Fault, Instr, instr_of};
+use jvm_code_instructions::{Fault, Instr, instr_of};
 use std::alloc::Global;
 
 fn error_of(fault: Fault, at: u32) -> CodeErr

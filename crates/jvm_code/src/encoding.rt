@@ -4,7 +4,7 @@ ghost use Rattle.std.specs.Prelude.{◌≡◌, IfOk};
 ghost use Rattle.jvm_code.specs.Spelling.{spelling};
 ghost use Rattle.jvm_code.specs.Decoding.{rows, IsLaid};
 
-use jvm_instr::{Instr, put_instr};
+use jvm_code_instructions::{Instr, put_instr};
 use kt_base::NoMemory;
 use std::alloc::Global;
 

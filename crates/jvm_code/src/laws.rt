@@ -1,7 +1,7 @@
 //! Laws of bytes and code: functions that do nothing, whose contracts say them.
 
 ghost use Rattle.std.specs.Prelude.{◌≡◌, ◌<◌, ◌^◌, ℕ, List, length, Ok};
-ghost use Rattle.jvm_instr.specs.Table.{Row};
+ghost use Rattle.jvm_code_instructions.specs.Table.{Row};
 ghost use Rattle.jvm_code.specs.Spelling.{spelling};
 ghost use Rattle.jvm_code.specs.Decoding.{decode_of, IsLaid};
 

@@ -5,7 +5,7 @@ ghost use Rattle.jvm_code.specs.Spelling.{Follows};
 ghost use Rattle.jvm_code.specs.Decoding.{rows, IsLaid};
 
 use crate::targets::bad_target;
-use jvm_instr::{Instr, is_allowed, size_of};
+use jvm_code_instructions::{Instr, is_allowed, size_of};
 
 /// Whether each offset is that of the instruction before and its size, and each row allows its operands.
 fn follows(code: &[(u32, Instr)]) -> bool

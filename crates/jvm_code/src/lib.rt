@@ -11,8 +11,8 @@ mod targets;
 pub use decoding::decode;
 pub use encoding::encode;
 pub use error::CodeErr;
-pub use jvm_instr::{Instr, LookupSwitch, TableSwitch, row_tells_instruction};
-pub use jvm_opcodes::{
+pub use jvm_code_instructions::{Instr, LookupSwitch, TableSwitch, row_tells_instruction};
+pub use jvm_code_opcodes::{
     Arithmetic, ArrayLoad, ArrayStore, Bitwise, Conversion, Division, FieldOp, FixedLoad,
     FixedStore, IntConstant, IntTest, InvokeOp, LoadOp, LongConstant, Negation, NullTest,
     ReferenceTest, ReturnOp, Shift, StackOp, StoreOp, ZeroTest,

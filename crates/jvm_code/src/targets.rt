@@ -2,11 +2,11 @@
 
 ghost use Rattle.std.specs.Prelude.{◌≡◌, ◌==◌, ◌≤◌, ◌<◌, ◌+◌, map};
 ghost use Rattle.std.specs.List.{list_any, list_all};
-ghost use Rattle.jvm_instr.specs.Table.{row_of, pair_of};
+ghost use Rattle.jvm_code_instructions.specs.Table.{row_of, pair_of};
 ghost use Rattle.jvm_code.specs.Decoding.{rows, starts_of, stands, aims, first_bad};
 ghost use Rattle.std.specs.List.Sorted.{IsStrictlyIncreasing};
 
-use jvm_instr::Instr;
+use jvm_code_instructions::Instr;
 
 /// Whether an instruction begins at the offset: by halving, since offsets ascend.
 fn begins_at(code: &[(u32, Instr)], target: u32) -> bool

@@ -1,7 +1,7 @@
 use Rattle.std.proofs.Common.{◌≡◌, ◌<◌, length, ◌+◌, ◌-◌, [], ◌∷◌, ◌++◌, arith, sym, ◌∙◌}
 use Rattle.std.proofs.lemmas.Bool.{eqb-true, eqb-false}
 use Rattle.std.proofs.lemmas.List.{map_push, length_push}
-use Rattle.jvm_instr.specs.Table.{row_of}
+use Rattle.jvm_code_instructions.specs.Table.{row_of}
 use Rattle.jvm_code.specs.Decoding.{rows, at_row}
 use Rattle.jvm_code.proofs.Passes.{code_goes_on, code_ends, code_done}
 use Rattle.jvm_code.proofs.decoding.instrs_of.Goals as goal

@@ -1,6 +1,6 @@
 use Rattle.std.proofs.Common.{◌++◌, take, ap, sym, ◌∙◌}
-use Rattle.jvm_instr.specs.Table.{row_of}
-use Rattle.jvm_instr.specs.Spelling.{row_bytes}
+use Rattle.jvm_code_instructions.specs.Table.{row_of}
+use Rattle.jvm_code_instructions.specs.Spelling.{row_bytes}
 use Rattle.jvm_code.specs.Spelling.{spelling}
 use Rattle.jvm_code.specs.Decoding.{rows}
 use Rattle.jvm_code.proofs.Following.{spelling_more}

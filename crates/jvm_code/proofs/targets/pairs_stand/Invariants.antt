@@ -1,7 +1,7 @@
 use Rattle.std.proofs.Common.{◌≡◌, take, true}
 use Rattle.std.specs.Prelude.{map}
 use Rattle.std.specs.List.{list_all}
-use Rattle.jvm_instr.specs.Table.{pair_of}
+use Rattle.jvm_code_instructions.specs.Table.{pair_of}
 use Rattle.jvm_code.specs.Decoding.{rows, starts_of, stands}
 use Rattle.jvm_code.proofs.targets.pairs_stand.Given as goal
 

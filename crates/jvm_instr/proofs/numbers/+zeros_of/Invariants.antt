@@ -1,4 +1,0 @@
-use Rattle.jvm_instr.proofs.numbers.+zeros_of.Given as goal
-
-abbrev pub decreases-zeros_of : goal.decreases-zeros_of
-decreases-zeros_of l = l.count

@@ -1,9 +1,0 @@
-use Rattle.kt_steps.proofs.Choosing.{on_reads, on_passes}
-use Rattle.kt_declaration_parser.proofs.Items.{none_read}
-use Rattle.kt_declaration_parser.proofs.lists.supertypes.Goals as goal
-
-pub returns-in-Some : goal.returns-in-Some
-returns-in-Some g c p h = on_reads _ _ _ _ _ _ _ _ _ c.in-Some.ensures (c.supertypes_rest.ensures p h)
-
-pub returns-in-None : goal.returns-in-None
-returns-in-None g c p h = on_passes _ _ _ _ _ _ c.in-None.ensures (none_read _ _ c.new.ensures _)

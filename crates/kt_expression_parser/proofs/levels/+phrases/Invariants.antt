@@ -1,7 +1,0 @@
-use Rattle.kt_expression_parser.proofs.levels.+phrases.Given as goal
-
-abbrev pub decreases-read_expression : goal.decreases-read_expression
-decreases-read_expression l = l.room
-
-abbrev pub decreases-read_statement : goal.decreases-read_statement
-decreases-read_statement l = l.room

@@ -1,9 +1,0 @@
-use Rattle.std.proofs.Common.{refl}
-use Rattle.kt_steps.proofs.Choosing.{on_if_reads, on_if_passes}
-use Rattle.kt_expression_parser.proofs.statements.Statements.initializer.Goals as goal
-
-pub returns-in-Some : goal.returns-in-Some
-returns-in-Some g c = on_if_reads _ _ _ _ _ _ _ _ _ _ _ c.is_deep.ensures c.in-Some.ensures c.initial_value.ensures
-
-pub returns-in-None : goal.returns-in-None
-returns-in-None g c = on_if_passes _ _ _ _ _ _ _ _ c.is_deep.ensures c.in-None.ensures refl

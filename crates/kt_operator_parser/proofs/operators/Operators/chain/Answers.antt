@@ -1,6 +1,0 @@
-use Rattle.std.proofs.Common.{rules}
-use Rattle.kt_operator_parser.specs.Rules.{binary_turn}
-use Rattle.kt_operator_parser.proofs.operators.Operators.chain.Goals as goal
-
-pub returns : goal.returns
-returns g c = c.repeat.ensures (binary_turn c.args.self.now.below.room c.args.at c.args.level) (λ s old new r e. search rules)

@@ -1,0 +1,12 @@
+use Rattle.std.proofs.Common.{Err, arith, sym, ap, ◌∙◌}
+use Rattle.kt_tree.specs.declared.tokens.Token.{Token}
+use Rattle.kt_grammar.specs.Parsers.{Cursor}
+use Rattle.kt_parser_steps.proofs.Ways.{reads_from}
+use Rattle.kt_parser_blocks.proofs.Depth.{no_parameter, parameter_is}
+use Rattle.kt_parser_blocks.proofs.below.Below.lambda_parameter.Goals as goal
+
+pub returns-then-self-eq0 : goal.returns-then-self-eq0
+returns-then-self-eq0 g c some = no_parameter c.args.self.now.room c.args.tokens.now (omega arith) ∙ ap (λ (z : Cursor Token). Err z.far) (sym c.refuse.ensures.marked)
+
+pub returns : goal.returns
+returns g c = reads_from _ _ _ (parameter_is c.args.self.now.room c.args.tokens.now (omega arith)) _ _ c.typed_parameter.ensures

@@ -1,0 +1,193 @@
+//! `try` with its `catch` blocks and `finally`.
+
+ghost use Rattle.kt_parser_blocks.specs.Below.{AreRead};
+ghost use Rattle.kt_grammar.specs.StatementParser.{parsers};
+ghost use Rattle.kt_parser_steps.specs.Steps.{ReadsAs};
+ghost use Rattle.kt_tree.specs.Bodies.{expression_tree};
+ghost use Rattle.kt_parser_blocks.specs.Rules as rules;
+ghost use Rattle.kt_parser_steps.specs.Steps.{turn_tree};
+ghost use Rattle.kt_tree.specs.Bodies.{block_tree, catch_tree};
+ghost use Rattle.std.specs.Prelude.{map};
+
+use crate::below::{Below, Precedence};
+use kt_base::Name;
+use kt_grammar::{Context, ParseError, Tokens};
+use kt_tree_nodes::blocks::catch;
+use kt_tree_nodes::expressions::try_catch;
+use kt_parser_steps::{Turn, attempt_if, expect, expect_identifier, expect_soft_keyword, name_of, repeat};
+use kt_tree::{Block, CatchBlock, Expression, Sign, SoftKeyword, Statement, Token};
+use kt_parser_types::read_type;
+use sqlite_items::Items;
+use std::alloc::Global;
+
+/// `'catch' '(' ID ':'`, behind line ends. The name is given.
+fn catch_head<'a>(tokens: &mut Tokens<'a>) -> Result<&'a Token, ParseError>
+    ensures { ReadsAs (λ token. token.now) (rules.catch_head tokens.old) result tokens.new }
+{
+    tokens.skip_lines();
+    expect_soft_keyword(tokens, SoftKeyword::Catch)?;
+    expect(tokens, Sign::OpenParenthesis)?;
+    let name = expect_identifier(tokens)?;
+    expect(tokens, Sign::Colon)?;
+    Ok(name)
+}
+
+/// `'finally' '{'`, behind line ends.
+fn finally_head<'a>(tokens: &mut Tokens<'a>) -> Result<&'a Token, ParseError>
+    ensures { ReadsAs (λ token. token.now) (rules.finally_head tokens.old) result tokens.new }
+{
+    tokens.skip_lines();
+    expect_soft_keyword(tokens, SoftKeyword::Finally)?;
+    tokens.skip_lines();
+    expect(tokens, Sign::OpenBrace)
+}
+
+impl<
+    E: Fn(Global, u32, Precedence, Context, &mut Tokens<'_>) -> Result<Expression, ParseError>
+        + Copy,
+    S: Fn(Global, u32, Context, &mut Tokens<'_>) -> Result<Statement, ParseError> + Copy,
+> Below<E, S> {
+    /// Behind `try`.
+    pub fn try_rest(
+        &self,
+        start: &Token,
+        at: Context,
+        tokens: &mut Tokens<'_>,
+    ) -> Result<Expression, ParseError>
+        requires { AreRead self.now.room (E.pre self.now.expression) (E.post self.now.expression) (S.pre self.now.statement) (S.post self.now.statement) }
+        ensures { ReadsAs expression_tree (rules.try_rest self.now.room at start.now tokens.old) result tokens.new }
+    {
+        tokens.skip_lines();
+        let block = self.block(at, tokens)?;
+        let catches = self.catches(at, tokens)?;
+        self.finally_rest(start, at, block, catches, tokens)
+    }
+
+    /// As many `catch` blocks as there are.
+    fn catches(&self, at: Context, tokens: &mut Tokens<'_>) -> Result<Items<CatchBlock>, ParseError>
+        requires { AreRead self.now.room (E.pre self.now.expression) (E.post self.now.expression) (S.pre self.now.statement) (S.post self.now.statement) }
+        ensures { ReadsAs (map catch_tree) (rules.catches self.now.room at tokens.old) result tokens.new }
+    {
+        repeat(
+            tokens,
+            Items::new(self.alloc),
+            &|catches: Items<CatchBlock>, tokens: &mut Tokens<'_>| self.catch_turn(
+                at, catches, tokens,
+            ),
+        )
+    }
+
+    fn catch_turn(
+        &self,
+        at: Context,
+        catches: Items<CatchBlock>,
+        tokens: &mut Tokens<'_>,
+    ) -> Result<Turn<Items<CatchBlock>, Items<CatchBlock>>, ParseError>
+        requires { AreRead self.now.room (E.pre self.now.expression) (E.post self.now.expression) (S.pre self.now.statement) (S.post self.now.statement) }
+        ensures { ReadsAs (turn_tree (map catch_tree) (map catch_tree)) (rules.catch_turn self.now.room at (map catch_tree catches) tokens.old) result tokens.new }
+    {
+        let head = attempt_if(self.is_deep(), tokens, &catch_head)?;
+        match head {
+            Some(token) => self.catch_more(at, catches, token, tokens),
+            None => Ok(Turn::Done(catches)),
+        }
+    }
+
+    fn catch_more(
+        &self,
+        at: Context,
+        mut catches: Items<CatchBlock>,
+        token: &Token,
+        tokens: &mut Tokens<'_>,
+    ) -> Result<Turn<Items<CatchBlock>, Items<CatchBlock>>, ParseError>
+        requires { AreRead self.now.room (E.pre self.now.expression) (E.post self.now.expression) (S.pre self.now.statement) (S.post self.now.statement) }
+        ensures { ReadsAs (turn_tree (map catch_tree) (map catch_tree)) (rules.catch_more self.now.room at (map catch_tree catches) token.now tokens.old) result tokens.new }
+    {
+        let name = name_of(self.alloc, token)?;
+        let next = self.inner_catch(at, name, tokens)?;
+        catches.push(next)?;
+        Ok(Turn::More(catches))
+    }
+
+    /// Behind the name of a `catch` and `:`, of at most `room` levels.
+    fn inner_catch(
+        &self,
+        at: Context,
+        name: Name,
+        tokens: &mut Tokens<'_>,
+    ) -> Result<CatchBlock, ParseError>
+        requires { AreRead self.now.room (E.pre self.now.expression) (E.post self.now.expression) (S.pre self.now.statement) (S.post self.now.statement) }
+        ensures { ReadsAs catch_tree ((parsers self.now.room).catch at name tokens.old) result tokens.new }
+    {
+        if self.room == 0 {
+            return Err(tokens.refuse());
+        }
+        self.lower().catch_rest(at, name, tokens)
+    }
+
+    fn catch_rest(
+        &self,
+        at: Context,
+        name: Name,
+        tokens: &mut Tokens<'_>,
+    ) -> Result<CatchBlock, ParseError>
+        requires { AreRead self.now.room (E.pre self.now.expression) (E.post self.now.expression) (S.pre self.now.statement) (S.post self.now.statement) }
+        ensures { ReadsAs catch_tree (rules.catch_rest self.now.room at name tokens.old) result tokens.new }
+    {
+        let exception = read_type(self.alloc, self.room + 1, tokens)?;
+        expect(tokens, Sign::CloseParenthesis)?;
+        tokens.skip_lines();
+        let body = self.block(at, tokens)?;
+        Ok(catch(name, exception, body))
+    }
+
+    /// Behind the `catch` blocks: `finally` may stand there, and has to where there is no `catch`.
+    fn finally_rest(
+        &self,
+        start: &Token,
+        at: Context,
+        block: Block,
+        catches: Items<CatchBlock>,
+        tokens: &mut Tokens<'_>,
+    ) -> Result<Expression, ParseError>
+        requires { AreRead self.now.room (E.pre self.now.expression) (E.post self.now.expression) (S.pre self.now.statement) (S.post self.now.statement) }
+        ensures { ReadsAs expression_tree (rules.finally_rest self.now.room at start.now (block_tree block) (map catch_tree catches) tokens.old) result tokens.new }
+    {
+        let head = attempt_if(true, tokens, &finally_head)?;
+        match head {
+            Some(_) => self.finally_block(start, at, block, catches, tokens),
+            None => without_finally(start, block, catches, tokens),
+        }
+    }
+
+    /// Behind `finally {`.
+    fn finally_block(
+        &self,
+        start: &Token,
+        at: Context,
+        block: Block,
+        catches: Items<CatchBlock>,
+        tokens: &mut Tokens<'_>,
+    ) -> Result<Expression, ParseError>
+        requires { AreRead self.now.room (E.pre self.now.expression) (E.post self.now.expression) (S.pre self.now.statement) (S.post self.now.statement) }
+        ensures { ReadsAs expression_tree (rules.finally_block self.now.room at start.now (block_tree block) (map catch_tree catches) tokens.old) result tokens.new }
+    {
+        let last = self.block_rest(at, tokens)?;
+        Ok(try_catch(start.pos, block, catches, Some(last)))
+    }
+}
+
+/// A `try` without `finally` has a `catch`.
+fn without_finally(
+    start: &Token,
+    block: Block,
+    catches: Items<CatchBlock>,
+    tokens: &mut Tokens<'_>,
+) -> Result<Expression, ParseError>
+    ensures { ReadsAs expression_tree (rules.without_finally start.now (block_tree block) (map catch_tree catches) tokens.old) result tokens.new }
+{
+    if catches.is_empty() {
+        return Err(tokens.refuse());
+    }
+    Ok(try_catch(start.pos, block, catches, None))
+}

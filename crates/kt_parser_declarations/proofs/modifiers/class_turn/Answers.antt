@@ -1,0 +1,16 @@
+use Rattle.std.proofs.Common.{refl}
+use Rattle.kt_parser_steps.proofs.Choosing.{on_if_gives, on_if_passes, on_if_skips}
+use Rattle.kt_parser_declarations.proofs.Items.{goes_on}
+use Rattle.kt_parser_declarations.proofs.modifiers.class_turn.Goals as goal
+
+pub returns-in-Some : goal.returns-in-Some
+returns-in-Some c = on_if_gives _ _ _ _ _ _ _ _ _ refl c.in-Some.ensures (goes_on _ _ c.with.ensures _)
+
+pub returns-in-Some-soft_keyword_if : goal.returns-in-Some-soft_keyword_if
+returns-in-Some-soft_keyword_if c = on_if_passes _ _ _ _ _ _ _ _ refl c.in-None.ensures (on_if_gives _ _ _ _ _ _ _ _ _ refl c.in-Some-soft_keyword_if.ensures (goes_on _ _ c.with-in-Some-soft_keyword_if.ensures _))
+
+pub returns-in-Some-soft_keyword_if-2 : goal.returns-in-Some-soft_keyword_if-2
+returns-in-Some-soft_keyword_if-2 c = on_if_passes _ _ _ _ _ _ _ _ refl c.in-None.ensures (on_if_passes _ _ _ _ _ _ _ _ refl c.in-None-soft_keyword_if.ensures (on_if_gives _ _ _ _ _ _ _ _ _ refl c.in-Some-soft_keyword_if-2.ensures (goes_on _ _ c.with-in-Some-soft_keyword_if-2.ensures _)))
+
+pub returns-in-None-soft_keyword_if-2 : goal.returns-in-None-soft_keyword_if-2
+returns-in-None-soft_keyword_if-2 c = on_if_skips _ _ _ _ _ _ _ _ _ _ refl c.in-None.ensures (on_if_skips _ _ _ _ _ _ _ _ _ _ refl c.in-None-soft_keyword_if.ensures (on_if_skips _ _ _ _ _ _ _ _ _ _ refl c.in-None-soft_keyword_if-2.ensures (c.class_keyword_turn.ensures)))

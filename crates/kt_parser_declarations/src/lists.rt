@@ -1,0 +1,89 @@
+//! The lists that declarations hold: supertypes, and members between braces.
+
+ghost use Rattle.kt_parser_declarations.specs.Rests as rests;
+ghost use Rattle.kt_grammar.specs.DeclarationParser as parser;
+ghost use Rattle.kt_grammar.specs.Parsers.{Parser};
+ghost use Rattle.kt_grammar.specs.Terminals.{is_of};
+ghost use Rattle.kt_parser_steps.specs.Steps.{EachReads, Finds, ReadsAs};
+ghost use Rattle.kt_tree.specs.declared.tokens.Token.{Token};
+ghost use Rattle.std.specs.Prelude.{IfOk, map};
+
+use kt_base::NoMemory;
+use kt_grammar::{ParseError, TokenClass, Tokens};
+use kt_parser_steps::{Lead, Node, attempt_if, expect, separated, several};
+use kt_tree::{Sign, Token};
+use sqlite_items::Items;
+use std::alloc::Global;
+
+/// Items between separators, up to the token that closes them.
+pub(crate) fn items_until<T: Node + Drop, F: Fn(&mut Tokens<'_>) -> Result<T, ParseError>>(
+    alloc: Global,
+    tokens: &mut Tokens<'_>,
+    close: TokenClass,
+    item: &F,
+) -> Result<Items<T>, ParseError>
+    requires { F.IsAlwaysCallable item.now }
+    ensures { (p : Parser Token T.Tree) → EachReads T.tree p (F.post item.now) → ReadsAs (map T.tree) (rests.items_until (is_of close) p tokens.old) result tokens.new }
+{
+    let (items, _) = separated(alloc, tokens, close, item)?;
+    Ok(items)
+}
+
+/// `n super (',' n super)*`, behind `:`.
+fn supertypes_rest<T: Node + Drop, F: Fn(&mut Tokens<'_>) -> Result<T, ParseError>>(
+    alloc: Global,
+    tokens: &mut Tokens<'_>,
+    item: &F,
+) -> Result<Items<T>, ParseError>
+    requires { F.IsAlwaysCallable item.now }
+    ensures { (p : Parser Token T.Tree) → EachReads T.tree p (F.post item.now) → ReadsAs (map T.tree) (rests.supertypes_rest p tokens.old) result tokens.new }
+{
+    tokens.skip_lines();
+    several(alloc, tokens, Lead::Nothing, item)
+}
+
+/// `(':' n super (',' n super)*)?`
+pub(crate) fn supertypes<T: Node + Drop, F: Fn(&mut Tokens<'_>) -> Result<T, ParseError>>(
+    alloc: Global,
+    tokens: &mut Tokens<'_>,
+    item: &F,
+) -> Result<Items<T>, ParseError>
+    requires { F.IsAlwaysCallable item.now }
+    ensures { (p : Parser Token T.Tree) → EachReads T.tree p (F.post item.now) → ReadsAs (map T.tree) (parser.supertypes p tokens.old) result tokens.new }
+{
+    match tokens.sign(Sign::Colon) {
+        Some(_) => supertypes_rest(alloc, tokens, item),
+        None => Ok(Items::new(alloc)),
+    }
+}
+
+/// `n '{'`
+fn open_brace<'a>(tokens: &mut Tokens<'a>) -> Result<&'a Token, ParseError>
+    ensures { ReadsAs (λ token. token.now) (rests.open_brace tokens.old) result tokens.new }
+{
+    tokens.skip_lines();
+    expect(tokens, Sign::OpenBrace)
+}
+
+/// Takes `{` behind line ends, where it stands. Else the cursor goes back.
+fn open_brace_ahead<'a>(tokens: &mut Tokens<'a>) -> Result<Option<&'a Token>, NoMemory>
+    ensures { IfOk result (λ found. Finds (λ token. token.now) (rests.open_brace tokens.old) tokens.old found tokens.new) }
+{
+    attempt_if(true, tokens, &open_brace)
+}
+
+/// `(n '{' sep? (item (sep item)*)? sep? '}')?`
+pub(crate) fn members<T: Node + Drop, F: Fn(&mut Tokens<'_>) -> Result<T, ParseError>>(
+    alloc: Global,
+    tokens: &mut Tokens<'_>,
+    item: &F,
+) -> Result<Items<T>, ParseError>
+    requires { F.IsAlwaysCallable item.now }
+    ensures { (p : Parser Token T.Tree) → EachReads T.tree p (F.post item.now) → ReadsAs (map T.tree) (parser.members p tokens.old) result tokens.new }
+{
+    let brace = open_brace_ahead(tokens)?;
+    match brace {
+        Some(_) => items_until(alloc, tokens, TokenClass::CloseBrace, item),
+        None => Ok(Items::new(alloc)),
+    }
+}

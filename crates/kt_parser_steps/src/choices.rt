@@ -1,0 +1,78 @@
+//! Parts that are taken where they are allowed and stand.
+
+ghost use Rattle.kt_grammar.specs.Parsers.{Parser};
+ghost use Rattle.kt_grammar.specs.Terminals.{is_of};
+ghost use Rattle.kt_parser_steps.specs.Chosen.{FindsIf, TurnedIf};
+ghost use Rattle.kt_parser_steps.specs.Steps.{EachReads};
+ghost use Rattle.kt_tree.specs.declared.tokens.Token.{Token};
+ghost use Rattle.kt_tree.specs.Tokens.{is_keyword, is_sign, is_soft_keyword};
+ghost use Rattle.std.specs.Option.{option_copied};
+ghost use Rattle.std.specs.Prelude.{IfOk};
+
+use crate::node::Node;
+use kt_base::NoMemory;
+use kt_grammar::{ParseError, TokenClass, Tokens};
+use kt_tree::{Keyword, Sign, SoftKeyword, Token};
+
+/// Takes the next token where this sign is allowed, and is it.
+pub fn sign_if<'a>(allowed: bool, tokens: &mut Tokens<'a>, sign: Sign) -> Option<&'a Token>
+    ensures { TurnedIf allowed (is_sign sign) tokens.old (option_copied result) tokens.new }
+{
+    if allowed { tokens.sign(sign) } else { None }
+}
+
+/// Takes the next token where this keyword is allowed, and is it.
+pub fn keyword_if<'a>(allowed: bool, tokens: &mut Tokens<'a>, keyword: Keyword) -> Option<&'a Token>
+    ensures { TurnedIf allowed (is_keyword keyword) tokens.old (option_copied result) tokens.new }
+{
+    if allowed {
+        tokens.keyword(keyword)
+    } else {
+        None
+    }
+}
+
+/// Takes the next token where this soft keyword is allowed, and is how it is spelled.
+pub fn soft_keyword_if<'a>(
+    allowed: bool,
+    tokens: &mut Tokens<'a>,
+    word: SoftKeyword,
+) -> Option<&'a Token>
+    ensures { TurnedIf allowed (is_soft_keyword word) tokens.old (option_copied result) tokens.new }
+{
+    if allowed {
+        tokens.soft_keyword(word)
+    } else {
+        None
+    }
+}
+
+/// Takes the next token where this class is allowed, and has it.
+pub fn class_if<'a>(allowed: bool, tokens: &mut Tokens<'a>, class: TokenClass) -> Option<&'a Token>
+    ensures { TurnedIf allowed (is_of class) tokens.old (option_copied result) tokens.new }
+{
+    if allowed { tokens.class(class) } else { None }
+}
+
+/// Takes a part where it is allowed and can be read. Else the cursor goes back.
+pub fn attempt_if<'a, A: Node + Drop, F: Fn(&mut Tokens<'a>) -> Result<A, ParseError>>(
+    allowed: bool,
+    tokens: &mut Tokens<'a>,
+    part: &F,
+) -> Result<Option<A>, NoMemory>
+    requires { F.IsAlwaysCallable part.now }
+    ensures { (p : Parser Token A.Tree) → EachReads A.tree p (F.post part.now) → IfOk result (λ found. FindsIf allowed A.tree p tokens.old found tokens.new) }
+{
+    if !allowed {
+        return Ok(None);
+    }
+    let place = tokens.rest();
+    match part(tokens) {
+        Ok(found) => Ok(Some(found)),
+        Err(ParseError::Refused) => {
+            tokens.go_to(place);
+            Ok(None)
+        }
+        Err(ParseError::NoMemory) => Err(NoMemory),
+    }
+}

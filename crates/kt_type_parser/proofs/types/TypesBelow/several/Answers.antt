@@ -1,6 +1,0 @@
-use Rattle.std.proofs.Common.{rules}
-use Rattle.kt_grammar.specs.Readers.{type_parser}
-use Rattle.kt_type_parser.proofs.types.TypesBelow.several.Goals as goal
-
-pub returns : goal.returns
-returns g c = c.comma_list.ensures (type_parser c.args.self.now.room) (λ old new r e. search rules)

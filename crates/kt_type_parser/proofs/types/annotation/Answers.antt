@@ -1,9 +1,0 @@
-use Rattle.std.proofs.Common.{refl}
-use Rattle.kt_steps.proofs.Choosing.{on_reads, on_passes}
-use Rattle.kt_type_parser.proofs.types.annotation.Goals as goal
-
-pub returns-in-Some : goal.returns-in-Some
-returns-in-Some c = on_reads _ _ _ _ _ _ _ _ _ c.in-Some.ensures c.annotation_rest.ensures
-
-pub returns-in-None : goal.returns-in-None
-returns-in-None c = on_passes _ _ _ _ _ _ c.in-None.ensures refl
