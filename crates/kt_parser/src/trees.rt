@@ -8,10 +8,10 @@ ghost use Rattle.kt_tree.specs.Declarations.{DeclarationTree, file_tree};
 ghost use Rattle.std.specs.Prelude.{◌≡◌, ◌⊎◌, ◌<◌, ◌-◌, Err, IfOk, List, MatchResult, length, true};
 
 use kt_base::{FrontErr, Kind, Pos, Refusal};
-use kt_parser_declarations::read_file;
 use kt_grammar::{ParseError, Tokens};
-use kt_tree_nodes::declarations::file;
+use kt_parser_declarations::read_file;
 use kt_tree::{FileTree, Token};
+use kt_tree_nodes::declarations::file;
 use std::alloc::Global;
 
 /// The tree of a file's tokens, of which the last and no other is [`kt_tree::TokenKind::End`].

@@ -10,16 +10,16 @@ ghost use Rattle.std.specs.Prelude.{map, option_map};
 
 use crate::below::{Below, Precedence};
 use kt_grammar::{Context, ParseError, TokenClass, Tokens};
-use kt_tree_nodes::blocks::{entry, equals, of_type};
-use kt_tree_nodes::expressions::{if_else, when};
 use kt_parser_steps::{
     Lead, attempt_if, class_ahead, expect, expect_keyword, separated, several, sign_if,
     take_type_check,
 };
+use kt_parser_types::read_type;
 use kt_tree::{
     ControlStructureBody, Expression, Keyword, Sign, Statement, Token, WhenCondition, WhenEntry,
 };
-use kt_parser_types::read_type;
+use kt_tree_nodes::blocks::{entry, equals, of_type};
+use kt_tree_nodes::expressions::{if_else, when};
 use sqlite_items::Items;
 use std::alloc::Global;
 

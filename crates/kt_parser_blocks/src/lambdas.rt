@@ -11,11 +11,11 @@ ghost use Rattle.std.specs.Prelude.{map};
 
 use crate::below::{Below, Precedence};
 use kt_grammar::{Context, ParseError, TokenClass, Tokens};
+use kt_parser_steps::{Lead, attempt_if, expect, expect_identifier, name_of, separated, several};
+use kt_parser_types::annotation;
+use kt_tree::{Block, ControlStructureBody, Expression, LambdaParameter, Sign, Statement, Token};
 use kt_tree_nodes::blocks::{block, braces, single};
 use kt_tree_nodes::expressions as nodes;
-use kt_parser_steps::{Lead, attempt_if, expect, expect_identifier, name_of, separated, several};
-use kt_tree::{Block, ControlStructureBody, Expression, LambdaParameter, Sign, Statement, Token};
-use kt_parser_types::annotation;
 use sqlite_items::Items;
 use std::alloc::Global;
 

@@ -12,11 +12,13 @@ ghost use Rattle.std.specs.Prelude.{map};
 use crate::below::{Below, Precedence};
 use kt_base::Name;
 use kt_grammar::{Context, ParseError, Tokens};
+use kt_parser_steps::{
+    Turn, attempt_if, expect, expect_identifier, expect_soft_keyword, name_of, repeat,
+};
+use kt_parser_types::read_type;
+use kt_tree::{Block, CatchBlock, Expression, Sign, SoftKeyword, Statement, Token};
 use kt_tree_nodes::blocks::catch;
 use kt_tree_nodes::expressions::try_catch;
-use kt_parser_steps::{Turn, attempt_if, expect, expect_identifier, expect_soft_keyword, name_of, repeat};
-use kt_tree::{Block, CatchBlock, Expression, Sign, SoftKeyword, Statement, Token};
-use kt_parser_types::read_type;
 use sqlite_items::Items;
 use std::alloc::Global;
 

@@ -20,13 +20,13 @@ use crate::lists::{members, supertypes};
 use crate::modifiers::Opening;
 use crate::parameters::{constructor_parameters, type_parameters, typed_parameter};
 use kt_grammar::{ParseError, Tokens};
-use kt_tree_nodes::declarations as nodes;
 use kt_parser_steps::{expect, expect_identifier, maybe_comma_list, name_of, take_variable};
 use kt_tree::{
     ClassDeclaration, ClassMember, ClassModifiers, Expression, FunctionDeclaration,
     InterfaceDeclaration, PropertyDeclaration, Sign, SuperArguments, Supertype, Token,
     TypeReference,
 };
+use kt_tree_nodes::declarations as nodes;
 use sqlite_items::Items;
 use std::alloc::Global;
 

@@ -9,7 +9,6 @@ ghost use Rattle.std.specs.Prelude.{◌≡◌, map, Ok};
 
 use crate::levels::annotation;
 use kt_grammar::{ParseError, TokenClass, Tokens};
-use kt_tree_nodes::declarations as nodes;
 use kt_parser_steps::{
     Lead, Turn, expect, expect_identifier, expect_keyword, meant_text, name_of, repeat, several,
     take_literal,
@@ -17,6 +16,7 @@ use kt_parser_steps::{
 use kt_tree::{
     ConstantDeclaration, ConstantValue, Declaration, EnumEntry, Keyword, Sign, TextPart, Token,
 };
+use kt_tree_nodes::declarations as nodes;
 use sqlite_items::Items;
 use std::alloc::Global;
 

@@ -14,9 +14,9 @@ use crate::lists::items_until;
 use crate::modifiers::{Opening, class_word};
 use kt_base::NoMemory;
 use kt_grammar::{ParseError, TokenClass, Tokens};
-use kt_tree_nodes::declarations as nodes;
 use kt_parser_steps::attempt_if;
 use kt_tree::{ClassModifiers, Declaration, Keyword, SoftKeyword, Token};
+use kt_tree_nodes::declarations as nodes;
 use sqlite_items::Items;
 use std::alloc::Global;
 

@@ -12,9 +12,9 @@ use crate::levels::{annotation, block, expression};
 use crate::modifiers::fun_word;
 use crate::parameters::{parameters_rest, type_parameters};
 use kt_grammar::{ParseError, Tokens};
-use kt_tree_nodes::declarations as nodes;
 use kt_parser_steps::{expect, expect_identifier, name_of, sign_if};
 use kt_tree::{FunctionBody, FunctionDeclaration, FunctionModifiers, Sign, TypeParameter};
+use kt_tree_nodes::declarations as nodes;
 use sqlite_items::Items;
 use std::alloc::Global;
 

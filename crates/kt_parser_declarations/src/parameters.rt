@@ -13,11 +13,11 @@ ghost use Rattle.std.specs.Prelude.{◌≡◌, map, Ok, true};
 
 use crate::levels::{annotation, any_type};
 use kt_grammar::{ParseError, Tokens};
-use kt_tree_nodes::declarations as nodes;
 use kt_parser_steps::{comma_list, expect, expect_identifier, maybe_comma_list, meant_if, name_of};
 use kt_tree::{
     ConstructorParameter, ConstructorParameterKind, Keyword, Parameter, Sign, Token, TypeParameter,
 };
+use kt_tree_nodes::declarations as nodes;
 use sqlite_items::Items;
 use std::alloc::Global;
 

@@ -8,15 +8,15 @@ ghost use Rattle.kt_grammar.specs.Parsers.{repeat};
 ghost use Rattle.kt_parser_steps.specs.Steps.{turn_tree};
 ghost use Rattle.std.specs.Prelude.{◌≡◌};
 
-use kt_parser_blocks::{Below, Precedence};
 use kt_grammar::{Context, ParseError, Tokens};
-use kt_tree_nodes::expressions::{binary, cast, prefix, type_check};
+use kt_parser_blocks::{Below, Precedence};
 use kt_parser_steps::{
     BinaryLevel, Turn, repeat, take_binary_operator, take_cast, take_prefix_operator,
     take_type_check,
 };
-use kt_tree::{BinaryOperator, Expression, PrefixOperator, Statement, Token};
 use kt_parser_types::read_type;
+use kt_tree::{BinaryOperator, Expression, PrefixOperator, Statement, Token};
+use kt_tree_nodes::expressions::{binary, cast, prefix, type_check};
 use std::alloc::Global;
 
 /// The parser of the expressions that hold phrases of at most `room` levels.

@@ -16,16 +16,16 @@ ghost use Rattle.std.specs.Prelude.{◌≡◌, ◌+◌, IfErr, IfOk, map, suc};
 
 use crate::operators::Operators;
 use kt_base::Name;
-use kt_parser_blocks::Precedence;
 use kt_grammar::{Context, ParseError, TokenClass, Tokens};
-use kt_tree_nodes::expressions::{call, index, member, not_null};
+use kt_parser_blocks::Precedence;
 use kt_parser_primaries::Primaries;
 use kt_parser_steps::{
     Node, Turn, attempt_if, class_ahead, expect, expect_identifier, maybe_comma_list, name_of,
     repeat, sign_if, take_member,
 };
-use kt_tree::{Expression, ExpressionKind, Sign, Statement, TypeReference};
 use kt_parser_types::type_arguments;
+use kt_tree::{Expression, ExpressionKind, Sign, Statement, TypeReference};
+use kt_tree_nodes::expressions::{call, index, member, not_null};
 use sqlite_items::Items;
 use std::alloc::Global;
 

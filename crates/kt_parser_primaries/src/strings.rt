@@ -11,11 +11,11 @@ ghost use Rattle.std.specs.Prelude.{map};
 use crate::parts::Parts;
 use crate::primaries::Primaries;
 use kt_base::Pos;
-use kt_parser_blocks::Precedence;
 use kt_grammar::{Context, ParseError, TokenClass, Tokens};
-use kt_tree_nodes::strings::{hole, name_part, template, text, this_part};
+use kt_parser_blocks::Precedence;
 use kt_parser_steps::{Turn, class_if, expect, meant_text, name_of, repeat};
 use kt_tree::{Expression, Sign, Statement, StringPart};
+use kt_tree_nodes::strings::{hole, name_part, template, text, this_part};
 use std::alloc::Global;
 
 impl<

@@ -9,8 +9,8 @@ ghost use Rattle.kt_tree.specs.Bodies.{block_tree};
 ghost use Rattle.std.specs.Prelude.{◌+◌, ◌<◌, ◌^◌};
 
 use crate::statements::Statements;
-use kt_parser_blocks::{Below, Precedence};
 use kt_grammar::{Context, ParseError, Tokens};
+use kt_parser_blocks::{Below, Precedence};
 use kt_parser_operators::Operators;
 use kt_tree::{Block, Expression, Statement};
 use std::alloc::Global;

@@ -14,19 +14,19 @@ ghost use Rattle.kt_parser_steps.specs.Chosen.{found_token};
 ghost use Rattle.std.specs.Prelude.{◌≡◌, IfOk, option_map};
 
 use kt_base::NoMemory;
-use kt_parser_blocks::{Below, Precedence};
 use kt_grammar::{Context, ParseError, Tokens};
-use kt_tree_nodes::statements::{assign, do_while, evaluate, for_loop, local, step, while_loop};
+use kt_parser_blocks::{Below, Precedence};
 use kt_parser_operators::Operators;
 use kt_parser_steps::{
     expect, expect_identifier, expect_keyword, keyword_if, name_of, sign_ahead, sign_if,
     take_assignment_operator, take_range_operator, take_step_operator, take_variable,
 };
+use kt_parser_types::annotation;
 use kt_tree::{
     AssignmentOperator, ControlStructureBody, Expression, ExpressionKind, Keyword, RangeOperator,
     Sign, Statement, Token,
 };
-use kt_parser_types::annotation;
+use kt_tree_nodes::statements::{assign, do_while, evaluate, for_loop, local, step, while_loop};
 use std::alloc::Global;
 
 /// The parser of the statements that hold phrases of at most `room` levels.

@@ -15,9 +15,11 @@ ghost use Rattle.std.specs.Prelude.{◌≡◌, map};
 
 use kt_base::Name;
 use kt_grammar::{ParseError, Tokens};
-use kt_tree_nodes::types::{function, named, nullable, parenthesized};
-use kt_parser_steps::{comma_list, expect, expect_identifier, maybe_comma_list, name_of, sign_ahead};
+use kt_parser_steps::{
+    comma_list, expect, expect_identifier, maybe_comma_list, name_of, sign_ahead,
+};
 use kt_tree::{Sign, SoftKeyword, TypeReference};
+use kt_tree_nodes::types::{function, named, nullable, parenthesized};
 use sqlite_items::Items;
 use std::alloc::Global;
 
