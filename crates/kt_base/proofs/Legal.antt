@@ -5,11 +5,13 @@ use Rattle.kt_base.specs.History.{History, Entry, reply}
 use Rattle.kt_base.specs.Meaning.{Program, next_event}
 use Rattle.kt_base.specs.World.{IsLegal, PlaysLegally, played, step, start_of, answers_of}
 
-went_on : {A B : Type 0} (f : A → Option B) (o : Option A) (b : B) → option_and_then f o ≡ Some b → (a : A) × ((o ≡ Some a) × (f a ≡ Some b))
+went_on : {A B : Type 0} (f : A → Option B) (o : Option A) (b : B) → option_and_then f o ≡ Some b
+    → (a : A) × ((o ≡ Some a) × (f a ≡ Some b))
 went_on f None b h = cc
 went_on f (Some a) b h = (a, (refl, h))
 
-mapped : {A B : Type 0} (f : A → B) (o : Option A) (b : B) → option_map f o ≡ Some b → (a : A) × ((o ≡ Some a) × (f a ≡ b))
+mapped : {A B : Type 0} (f : A → B) (o : Option A) (b : B) → option_map f o ≡ Some b
+    → (a : A) × ((o ≡ Some a) × (f a ≡ b))
 mapped f None b h = cc
 mapped f (Some a) b h = (a, (refl, cc))
 
@@ -18,9 +20,11 @@ there o a h = subst IsSome (sym h) refl
 
 -- an entry that fits a history: its coroutine had begun, and its answer is the reply
 abbrev Fits : ℕ → History → Entry → Type 0
-Fits numbers history entry = IsSome (start_of history entry.coroutine) × (reply numbers history entry.asked ≡ Some entry.answered)
+Fits numbers history entry =
+    IsSome (start_of history entry.coroutine) × (reply numbers history entry.asked ≡ Some entry.answered)
 
-step_fits : (program : Program) (numbers : ℕ) (history : History) (n : ℕ) (entry : Entry) → step program numbers history n ≡ Some entry → Fits numbers history entry
+step_fits : (program : Program) (numbers : ℕ) (history : History) (n : ℕ) (entry : Entry)
+    → step program numbers history n ≡ Some entry → Fits numbers history entry
 step_fits program numbers history n entry is =
     let begun = went_on _ (start_of history n) entry is in
     let asked = went_on _ (next_event program begun.0 (answers_of n history)) entry begun.1.1 in

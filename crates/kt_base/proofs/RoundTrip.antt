@@ -1,5 +1,6 @@
 -- A text in UTF-16 and then in UTF-8 is the text in UTF-8.
-use Rattle.std.proofs.Common.{◌≡◌, ℕ, ◌+◌, ◌-◌, ◌/◌, ◌%◌, ◌<◌, ◌≤◌, ◌⊎◌, true, List, [], ◌∷◌, ◌++◌, Some, refl, ap, ◌∙◌, ⊎_elim, Bool, false, ◌&&◌, arith}
+use Rattle.std.proofs.Common.{◌≡◌, ℕ, ◌+◌, ◌-◌, ◌/◌, ◌%◌, ◌<◌, ◌≤◌, ◌⊎◌, true, List, [], ◌∷◌, ◌++◌, Some, refl, ap, ◌∙◌}
+use Rattle.std.proofs.Common.{⊎_elim, Bool, false, ◌&&◌, arith}
 use Rattle.std.proofs.Math.Utf8.{scalar, scalars, encode, encodes, scalar_cases}
 use Rattle.std.proofs.lemmas.Bool.Decides.{nat_tests}
 use Rattle.std.proofs.lemmas.Bool.{cases_lt}
@@ -51,7 +52,8 @@ utf8_of_characters : (cs : List ℕ) → scalars cs ≡ true → utf8_of (utf16_
 utf8_of_characters [] s = utf8_of_nothing
 utf8_of_characters (c ∷ cs) s =
     let parts = both _ _ s in
-    ap (flat_map utf8_char) (first c (utf16_of cs) parts.0) ∙ ap (λ bytes. encode c ++ bytes) (utf8_of_characters cs parts.1)
+    ap (flat_map utf8_char) (first c (utf16_of cs) parts.0) ∙ ap (λ bytes. encode c ++ bytes)
+    (utf8_of_characters cs parts.1)
 
 pub round_trip : RoundTrip
 round_trip bytes utf8 = utf8_of_characters (chars bytes) (scalars-chars bytes utf8) ∙ encodes-chars bytes utf8

@@ -1,5 +1,6 @@
 -- What happened in a run so far, and what an event is answered.
-use Rattle.std.specs.Prelude.{ℕ, ◌+◌, Bool, false, ◌||◌, List, [], ◌∷◌, Option, None, Some, option_map, is_some, nat_lt, ◌==◌, if◌then◌else◌}
+use Rattle.std.specs.Prelude.{ℕ, ◌+◌, nat_lt, Bool, false, ◌||◌, ◌==◌, if◌then◌else◌}
+use Rattle.std.specs.Prelude.{List, [], ◌∷◌, Option, None, Some, option_map, is_some}
 use Rattle.kt_base.specs.declared.lumps.Lump.{Lump}
 use Rattle.kt_base.specs.declared.events.Fate.{Fate}
 use Rattle.kt_base.specs.declared.events.Event.{Event}
@@ -45,11 +46,15 @@ outcome_in _ _ n = None
 -- the outcome of a cell: that of the resume which won
 abbrev pub outcome_of : History → ℕ → Option (Fate Lump)
 outcome_of [] n = None
-outcome_of (entry ∷ history) n = if is_some (outcome_in entry.asked entry.answered n) then outcome_in entry.asked entry.answered n else outcome_of history n
+outcome_of (entry ∷ history) n =
+    if is_some (outcome_in entry.asked entry.answered n)
+    then outcome_in entry.asked entry.answered n
+    else outcome_of history n
 
 -- the answer to a draw: the next number, where numbers are left
 abbrev pub draw_answer : ℕ → History → Answer Lump
-draw_answer numbers history = if nat_lt (numbers_drawn history) numbers then answer.Number (numbers_drawn history) else answer.Full
+draw_answer numbers history =
+    if nat_lt (numbers_drawn history) numbers then answer.Number (numbers_drawn history) else answer.Full
 
 -- the answer to an event after a history, in a run that may draw so many numbers; none where the event has to wait,
 -- or names a cell that nobody drew

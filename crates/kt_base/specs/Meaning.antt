@@ -1,5 +1,5 @@
 -- What one coroutine does, whatever language it is written in.
-use Rattle.std.specs.Prelude.{List, length, Option, slice_get}
+use Rattle.std.specs.Prelude.{◌≡◌, List, length, Option, slice_get, is_some, not}
 use Rattle.kt_base.specs.declared.lumps.Lump.{Lump}
 use Rattle.kt_base.specs.declared.events.Event.{Event}
 use Rattle.kt_base.specs.declared.events.Answer.{Answer}
@@ -19,3 +19,9 @@ Program = Start → List (Answer Lump) → Course
 -- the event that waits for an answer
 abbrev pub next_event : Program → Start → List (Answer Lump) → Option (Event Lump)
 next_event program start answers = slice_get (program start answers).events (length answers)
+
+-- each course of the program is whole: it has an end exactly where no event waits for an answer
+abbrev pub IsWhole : Program → Type 0
+IsWhole program =
+    (start : Start) (answers : List (Answer Lump))
+    → is_some (program start answers).end ≡ not (is_some (next_event program start answers))

@@ -1,5 +1,6 @@
 -- What a finished run writes, and its status.
-use Rattle.std.specs.Prelude.{ℕ, Bool, true, false, List, [], ◌∷◌, ◌++◌, map, Option, None, Some, codes, if◌then◌else◌, ◌==◌}
+use Rattle.std.specs.Prelude.{ℕ, Bool, true, false, ◌==◌, if◌then◌else◌}
+use Rattle.std.specs.Prelude.{List, [], ◌∷◌, ◌++◌, map, Option, None, Some, codes}
 use Rattle.std.specs.List.{flat_map, list_any}
 use Rattle.std.specs.Fmt.{decimal}
 use Rattle.kt_base.specs.declared.lumps.Lump.{Lump}
@@ -65,4 +66,8 @@ is_waiting _ = false
 
 -- the status of a finished run: 5 spent, 3 uncaught, 4 stalled, 0 done; the first that holds of some coroutine
 abbrev pub status_of : List (ℕ × Halt) → ℕ
-status_of halts = if list_any (λ h. is_spent h.1) halts then 5 else if list_any (λ h. is_uncaught h.1) halts then 3 else if list_any (λ h. is_waiting h.1) halts then 4 else 0
+status_of halts =
+    if list_any (λ h. is_spent h.1) halts then 5
+    else if list_any (λ h. is_uncaught h.1) halts then 3
+    else if list_any (λ h. is_waiting h.1) halts then 4
+    else 0

@@ -12,9 +12,12 @@ pub record Stacked : Type 0 where
 -- the state after one step, none where an operand is missing
 abbrev pub stepped : Plain → List ℤ → List ℤ → Option Stacked
 stepped (plain.Push n) stack printed = Some (record { stack = n ∷ stack; printed = printed })
-stepped plain.Add (b ∷ a ∷ stack) printed = Some (record { stack = int_wrapping_add w32 a b ∷ stack; printed = printed })
-stepped plain.Sub (b ∷ a ∷ stack) printed = Some (record { stack = int_wrapping_sub w32 a b ∷ stack; printed = printed })
-stepped plain.Mul (b ∷ a ∷ stack) printed = Some (record { stack = int_wrapping_mul w32 a b ∷ stack; printed = printed })
+stepped plain.Add (b ∷ a ∷ stack) printed =
+    Some (record { stack = int_wrapping_add w32 a b ∷ stack; printed = printed })
+stepped plain.Sub (b ∷ a ∷ stack) printed =
+    Some (record { stack = int_wrapping_sub w32 a b ∷ stack; printed = printed })
+stepped plain.Mul (b ∷ a ∷ stack) printed =
+    Some (record { stack = int_wrapping_mul w32 a b ∷ stack; printed = printed })
 stepped plain.Print (n ∷ stack) printed = Some (record { stack = stack; printed = printed ++ n ∷ [] })
 stepped _ stack printed = None
 

@@ -1,5 +1,7 @@
 -- The world of a list of scheduling choices: which coroutine takes the next step, choice after choice.
-use Rattle.std.specs.Prelude.{◌≡◌, ℕ, List, [], ◌∷◌, ◌++◌, Option, None, Some, option_and_then, option_map, option_to_list, IsSome, ⊤, ◌==◌, if◌then◌else◌}
+use Rattle.std.specs.Prelude.{◌≡◌, ℕ, List, [], ◌∷◌, ◌++◌, Option, None, Some, option_and_then, option_map}
+use Rattle.std.specs.Prelude.{option_to_list, IsSome, ⊤, ◌==◌, if◌then◌else◌}
+use Rattle.std.specs.List.Sorted.{IsStrictlyIncreasing}
 use Rattle.kt_base.specs.declared.lumps.Lump.{Lump}
 use Rattle.kt_base.specs.declared.events.Event.{Event}
 use Rattle.kt_base.specs.declared.events.Event.TheVariants as event
@@ -28,10 +30,11 @@ abbrev pub start_of : History → ℕ → Option Start
 start_of [] n = if n == 0 then Some start.Main else None
 start_of (entry ∷ history) n = start_at (launch_in entry.asked entry.answered) n (start_of history n)
 
--- the coroutines in ascending order: `main`, then each that was launched, since numbers are drawn in ascending order
+-- the coroutines: `main`, then each that was launched; in a legal history they are in ascending order
 abbrev pub coroutines : History → List ℕ
 coroutines [] = 0 ∷ []
-coroutines (entry ∷ history) = coroutines history ++ option_to_list (option_map (λ launch. launch.0) (launch_in entry.asked entry.answered))
+coroutines (entry ∷ history) =
+    coroutines history ++ option_to_list (option_map (λ launch. launch.0) (launch_in entry.asked entry.answered))
 
 -- what a coroutine was answered, in order
 abbrev pub answers_of : ℕ → History → List (Answer Lump)
@@ -40,13 +43,19 @@ answers_of n (entry ∷ history) = answers_of n history ++ (if entry.coroutine =
 
 -- a step of a coroutine: its next event with the reply, if it began and both are there
 abbrev pub step : Program → ℕ → History → ℕ → Option Entry
-step program numbers history n = option_and_then (λ start. option_and_then (λ asked. option_map (λ answered. record { coroutine = n; asked = asked; answered = answered })
-    (reply numbers history asked)) (next_event program start (answers_of n history))) (start_of history n)
+step program numbers history n =
+    option_and_then (λ start.
+    option_and_then (λ asked.
+    option_map (λ answered. record { coroutine = n; asked = asked; answered = answered })
+    (reply numbers history asked))
+    (next_event program start (answers_of n history)))
+    (start_of history n)
 
 -- the history after further choices, none where one of them can't take a step
 abbrev pub played : Program → ℕ → History → List ℕ → Option History
 played program numbers history [] = Some history
-played program numbers history (n ∷ choices) = option_and_then (λ entry. played program numbers (entry ∷ history) choices) (step program numbers history n)
+played program numbers history (n ∷ choices) =
+    option_and_then (λ entry. played program numbers (entry ∷ history) choices) (step program numbers history n)
 
 -- the world of a list of choices, under the number of numbers that may be drawn
 abbrev pub world : Program → ℕ → List ℕ → Option History
@@ -56,7 +65,9 @@ world program numbers choices = played program numbers [] choices
 abbrev pub IsLegal : ℕ → History → Type 0
 IsLegal numbers [] = ⊤
 IsLegal numbers (entry ∷ history) =
-    IsSome (start_of history entry.coroutine) × (reply numbers history entry.asked ≡ Some entry.answered) × IsLegal numbers history
+    IsSome (start_of history entry.coroutine)
+    × (reply numbers history entry.asked ≡ Some entry.answered)
+    × IsLegal numbers history
 
 -- how a coroutine stands that can take no further step: it has ended, or awaits a cell without an outcome
 abbrev pub stands : Option End → Option (Event Lump) → Option (Answer Lump) → Option Halt
@@ -74,7 +85,8 @@ halt_of program numbers history n = option_and_then (λ start.
 -- the coroutines stand so, each with its number
 abbrev pub AllStand : Program → ℕ → History → List ℕ → List (ℕ × Halt) → Type 0
 AllStand program numbers history [] [] = ⊤
-AllStand program numbers history (n ∷ ns) (h ∷ hs) = (h.0 ≡ n) × (halt_of program numbers history n ≡ Some h.1) × AllStand program numbers history ns hs
+AllStand program numbers history (n ∷ ns) (h ∷ hs) =
+    (h.0 ≡ n) × (halt_of program numbers history n ≡ Some h.1) × AllStand program numbers history ns hs
 AllStand program numbers history _ _ = ⊥
 
 -- the world is final: no coroutine of it can go on, and they stand so, in ascending order
@@ -83,4 +95,11 @@ IsFinal program numbers history halts = AllStand program numbers history (corout
 
 -- what choices play after a legal history is legal
 abbrev pub PlaysLegally : Type 0
-PlaysLegally = (program : Program) (numbers : ℕ) (choices : List ℕ) (history : History) → world program numbers choices ≡ Some history → IsLegal numbers history
+PlaysLegally =
+    (program : Program) (numbers : ℕ) (choices : List ℕ) (history : History)
+    → world program numbers choices ≡ Some history → IsLegal numbers history
+
+-- the coroutines of a legal history are in ascending order, none of them twice
+abbrev pub CoroutinesAscend : Type 0
+CoroutinesAscend =
+    (numbers : ℕ) (history : History) → IsLegal numbers history → IsStrictlyIncreasing (coroutines history)

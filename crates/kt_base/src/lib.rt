@@ -23,6 +23,3 @@ pub use names::Name;
 pub use refusals::{FrontErr, Kind, Pos, Refusal};
 pub use stack_code::Plain;
 pub use texts::Text16;
-
-#[cfg(test)]
-mod tests;

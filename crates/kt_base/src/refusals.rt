@@ -1,13 +1,13 @@
 //! Why a source text is refused, and where.
 
-ghost use Rattle.kt_base.specs.Refusals.{kind_text, pos_text, refusal_text};
+ghost use Rattle.kt_base.specs.Refusals.{front_err_text, kind_text, pos_text, refusal_text};
 ghost use Rattle.kt_base.specs.declared.refusals.FrontErr.TheVariants as front_err;
 ghost use Rattle.std.specs.Prelude.{◌≡◌, Some};
 
 use crate::errors::NoMemory;
 use std::alloc::{AllocError, AllocFailed};
+use std::error::Error;
 use std::fmt;
-use thiserror::Error;
 
 /// A place in a source text. Lines and columns count from 1; a column is one Unicode scalar value.
 #[derive(Clone, Copy, Debug, PartialEq, Eq, PartialOrd, Ord, Hash)]
@@ -73,13 +73,25 @@ impl fmt::Display for Refusal {
 }
 
 /// What a call of the front end answers in place of a result.
-#[derive(Clone, Copy, Debug, PartialEq, Eq, Hash, Error)]
+#[derive(Clone, Copy, Debug, PartialEq, Eq, Hash)]
 pub enum FrontErr {
-    #[error("{0}")]
     Refused(Refusal),
-    #[error("out of memory")]
     NoMemory,
 }
+
+/// Written by hand, since what a derive writes has no contract.
+impl fmt::Display for FrontErr {
+    ghost output = { λ x. Some (front_err_text x) };
+
+    fn fmt<W: fmt::Write>(&self, f: &mut fmt::Formatter<W>) -> fmt::Result {
+        match self {
+            FrontErr::Refused(refusal) => refusal.fmt(f),
+            FrontErr::NoMemory => f.write_str("out of memory"),
+        }
+    }
+}
+
+impl Error for FrontErr {}
 
 impl From<NoMemory> for FrontErr {
     ghost from_gives = { λ _ e. e ≡ front_err.NoMemory };

@@ -2,7 +2,8 @@
 
 ghost use Rattle.kt_base.specs.Text.{utf16_of, utf8_of, utf8_char, starts_with_pair};
 ghost use Rattle.std.specs.Prelude.{◌≡◌, ◌<◌, ◌≤◌, [], ◌∷◌, ◌++◌, length, take, IsTrue, IfOk, OnOk, OnErr};
-ghost use Rattle.std.specs.Char.Utf16.{utf16_chars, is_high_surrogate, is_low_surrogate, surrogate_pair_char, lone_unit_char};
+ghost use Rattle.std.specs.Char.Utf16.{utf16_chars, is_high_surrogate, is_low_surrogate, surrogate_pair_char};
+ghost use Rattle.std.specs.Char.Utf16.{lone_unit_char};
 ghost use Rattle.std.specs.Str.{chars};
 ghost use Rattle.std.specs.Prelude.{◌==◌};
 ghost use Rattle.std.specs.Cmp.{partial_equiv_from_equiv};

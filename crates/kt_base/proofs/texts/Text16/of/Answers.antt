@@ -8,6 +8,8 @@ use Rattle.kt_base.proofs.texts.Text16.of.Goals as goal
 
 pub returns : goal.returns
 returns c =
-    let all = YieldsList-end (YieldsList-from_chars c.args.s.now c.utf8.s cc) c.loop-c.yielded _ c.loop-c.yielded_by _ _ c.in-None.is c.next.ensures.steps in
+    let all = YieldsList-end
+    (YieldsList-from_chars c.args.s.now c.utf8.s cc) c.loop-c.yielded _ c.loop-c.yielded_by _ _ c.in-None.is
+    c.next.ensures.steps in
     let yielded : c.loop-c.yielded ≡ chars c.args.s.now = sym (map-id c.loop-c.yielded) ∙ all.0 in
     c.loop-c.invariant ∙ ap utf16_of yielded

@@ -1,6 +1,6 @@
-//! Outside vectors, as tables.
+//! Texts as code units and as bytes.
 
-use crate::{FrontErr, Kind, Name, NoMemory, Pos, Refusal, Text16};
+use kt_base::Text16;
 use std::alloc::Global;
 use std::process::Abort;
 use std::test::Fail;
@@ -73,69 +73,5 @@ fn bytes_of_units(rt: HostRuntime) -> Result<(), Fail> {
     for (units, bytes) in spelled() {
         appends(&rt, rt.alloc(), units, bytes)?;
     }
-    Ok(())
-}
-
-/// The name that these bytes spell, which are ASCII.
-fn name(alloc: Global, bytes: &str) -> Result<Name, Fail> {
-    if !bytes.is_ascii() {
-        return Err(Fail::from("not ASCII"));
-    }
-    Ok(Name::of(alloc, bytes.as_bytes())?)
-}
-
-/// Different names, from no byte to the greatest.
-fn names() -> [&'static str; 6] {
-    [
-        "",
-        "java/lang/String",
-        "java/lang/StringBuilder",
-        "MainKt$L1",
-        "MainKt$L2",
-        "\0 \u{7F}",
-    ]
-}
-
-#[test]
-fn names_are_their_bytes(rt: HostRuntime) -> Result<(), Fail> {
-    for one in names() {
-        let found = name(rt.alloc(), one)?;
-        assert_eq!(rt; found.as_bytes(), one.as_bytes());
-        for other in names() {
-            let same = found.clone()? == name(rt.alloc(), other)?;
-            assert_eq!(rt; same, one == other, "of {one} and {other}");
-        }
-    }
-    Ok(())
-}
-
-/// A refusal of each stage, and its printed form.
-fn refusals() -> [(Kind, u32, u32, &'static str); 5] {
-    [
-        (Kind::Lex, 1, 1, "1:1: Lex"),
-        (Kind::Syntax, 3, 14, "3:14: Syntax"),
-        (Kind::Typing, 10, 2, "10:2: Type"),
-        (Kind::Share, 4294967295, 7, "4294967295:7: Share"),
-        (Kind::Size, 1, 4294967295, "1:4294967295: Size"),
-    ]
-}
-
-#[test]
-fn printed_refusals(rt: HostRuntime) -> Result<(), Fail> {
-    for (kind, line, column, printed) in refusals() {
-        let pos = Pos { line, column };
-        let refusal = Refusal { kind, pos };
-        assert_eq!(rt; refusal.to_string(rt.alloc())?.as_str(), printed);
-        let error = FrontErr::Refused(refusal);
-        assert_eq!(rt; error.to_string(rt.alloc())?.as_str(), printed);
-    }
-    Ok(())
-}
-
-#[test]
-fn printed_want_of_memory(rt: HostRuntime) -> Result<(), Fail> {
-    let error = FrontErr::from(NoMemory);
-    assert_eq!(rt; error.to_string(rt.alloc())?.as_str(), "out of memory");
-    assert_eq!(rt; NoMemory.to_string(rt.alloc())?.as_str(), "out of memory");
     Ok(())
 }
