@@ -1,5 +1,6 @@
 -- The tokens that productions name, and what they stand for.
 use Rattle.std.specs.Prelude.{not, ℕ, Bool, true, false, ◌||◌, if◌then◌else◌, List, [], Option, None, Some}
+pub use Rattle.kt_tree.specs.Tokens.{kind_is_end, is_end}
 use Rattle.kt_tree.specs.declared.tokens.Token.{Token}
 use Rattle.kt_tree.specs.declared.tokens.TokenKind.{TokenKind}
 use Rattle.kt_tree.specs.declared.tokens.TokenKind.TheVariants as kind
@@ -36,13 +37,6 @@ is_separator = either is_new_line (is_sign sign.Semicolon)
 -- any token but `->`
 abbrev pub is_no_arrow : Token → Bool
 is_no_arrow token = not (is_sign sign.Arrow token)
-
-abbrev pub kind_is_end : TokenKind → Bool
-kind_is_end kind.End = true
-kind_is_end _ = false
-
-abbrev pub is_end : Token → Bool
-is_end token = kind_is_end token.kind
 
 -- the spelling of an identifier, or of the name in a string
 abbrev pub kind_name : TokenKind → List ℕ

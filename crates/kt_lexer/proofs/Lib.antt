@@ -15,3 +15,5 @@ pub mod Standing
 pub mod WordBytes
 pub mod TextLengths
 pub mod Refusals
+pub mod LastTokens
+pub mod SourcesDecided

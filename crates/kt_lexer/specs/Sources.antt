@@ -1,5 +1,5 @@
 -- The tokens of a source, which is bytes: whether they are a text, and at which place they aren't.
-use Rattle.std.specs.Prelude.{ℕ, ◌<◌, ◌≤◌, List, take, length}
+use Rattle.std.specs.Prelude.{ℕ, ◌<◌, ◌≤◌, List, take, length, ◌⊎◌}
 use Rattle.std.specs.Str.{IsUtf8, chars}
 use Rattle.std.specs.Str.Lossy.{utf8_valid_len}
 use Rattle.kt_base.specs.declared.refusals.Pos.{Pos}
@@ -34,3 +34,8 @@ pub data IsSourceRefused (bytes : List ℕ) : Refusal → Type 0 where
       → IsSourceRefused bytes (lex_refusal at)
   no_text : {r : Refusal} → length bytes ≤ 1048576 → (IsUtf8 bytes → ⊥) → IsBrokenOff (chars (valid_front bytes)) r
       → IsSourceRefused bytes r
+
+-- a source has tokens, or is refused
+abbrev pub SourceTokensOrRefused : Type 0
+SourceTokensOrRefused =
+    (bytes : List ℕ) → ((ts : List Token) × AreTokensOfSource bytes ts) ⊎ ((r : Refusal) × IsSourceRefused bytes r)

@@ -1,5 +1,6 @@
 //! Laws of the definitions, each the contract of a function that does nothing.
 
+ghost use Rattle.kt_lexer.specs.Sources.{SourceTokensOrRefused};
 ghost use Rattle.kt_lexer.specs.Texts as spec;
 
 /// A text has at most one list of tokens.
@@ -24,4 +25,9 @@ pub fn not_both()
 #[tactic(auto, using(crate::proofs::Whole::one_refusal))]
 pub fn one_refusal()
     ensures { spec.OneRefusal }
+{}
+
+/// A source has tokens, or is refused.
+pub fn source_tokens_or_refused()
+    ensures { SourceTokensOrRefused }
 {}

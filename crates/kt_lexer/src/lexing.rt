@@ -1,12 +1,13 @@
 //! The tokens of a text, from its front.
 
-ghost use Rattle.std.specs.Prelude.{◌≡◌, ◌+◌, ◌-◌, ◌^◌, ◌<◌, ◌≤◌, ◌++◌, ◌⊎◌, List, Err, length, IfOk, OnOk};
+ghost use Rattle.std.specs.Prelude.{◌≡◌, ◌+◌, ◌-◌, ◌^◌, ◌<◌, ◌≤◌, ◌++◌, ◌⊎◌, List, Err, length, IfOk, OnOk, true};
 ghost use Rattle.std.specs.Result.{MatchResult};
 ghost use Rattle.std.specs.Str.{chars};
 ghost use Rattle.kt_base.specs.declared.refusals.Pos.{Pos};
 ghost use Rattle.kt_base.specs.declared.refusals.Refusal.{Refusal};
 ghost use Rattle.kt_base.specs.declared.refusals.Kind.TheVariants as stage;
 ghost use Rattle.kt_base.specs.declared.refusals.FrontErr.TheVariants as front_err;
+ghost use Rattle.kt_tree.specs.Tokens.{ends_alone};
 ghost use Rattle.kt_tree.specs.declared.tokens.Token.{Token};
 ghost use Rattle.kt_lexer.specs.Texts as spec;
 ghost use Rattle.kt_lexer.specs.Texts.{AreTokensOf, IsLexRefusedAt};
@@ -30,6 +31,7 @@ use std::alloc::Global;
 pub fn lex(alloc: Global, text: &str) -> Result<Vec<Token>, FrontErr>
     requires { length text.now < 2 ^ 32 - 1 }
     ensures tokens { IfOk result (λ ts. AreTokensOf (chars text.now) ts.items) }
+    ensures ends { IfOk result (λ ts. ends_alone ts.items ≡ true) }
     ensures only { (ts : List Token) → AreTokensOf (chars text.now) ts
         → MatchResult result (λ found. found.items ≡ ts) (λ e. e ≡ front_err.NoMemory) }
     ensures refused { (r : Refusal) → result ≡ Err (front_err.Refused r)
@@ -53,6 +55,7 @@ pub fn characters(alloc: Global, text: &str) -> Result<Vec<char>, NoMemory>
 pub fn tokens_of(alloc: Global, chars: &[char]) -> Result<Vec<Token>, FrontErr>
     requires { length chars.now < 2 ^ 32 - 1 }
     ensures tokens { IfOk result (λ ts. AreTokensOf chars.now ts.items) }
+    ensures ends { IfOk result (λ ts. ends_alone ts.items ≡ true) }
     ensures only { (ts : List Token) → AreTokensOf chars.now ts
         → MatchResult result (λ found. found.items ≡ ts) (λ e. e ≡ front_err.NoMemory) }
     ensures refused { (r : Refusal) → result ≡ Err (front_err.Refused r)

@@ -15,7 +15,7 @@ mod signs;
 mod sources;
 mod words;
 
-pub use laws::{not_both, one_refusal, one_tokens, tokens_or_refused};
+pub use laws::{not_both, one_refusal, one_tokens, source_tokens_or_refused, tokens_or_refused};
 pub use lexing::lex;
 pub use sources::lex_bytes;
 

@@ -1,10 +1,11 @@
 //! The tokens of a source, which is bytes.
 
-ghost use Rattle.std.specs.Prelude.{◌≡◌, ◌-◌, ◌^◌, ◌<◌, ◌⊎◌, List, Err, length, IfOk};
+ghost use Rattle.std.specs.Prelude.{◌≡◌, ◌-◌, ◌^◌, ◌<◌, ◌⊎◌, List, Err, length, IfOk, true};
 ghost use Rattle.std.specs.Result.{MatchResult};
 ghost use Rattle.std.specs.Str.{chars, IsUtf8};
 ghost use Rattle.kt_base.specs.declared.refusals.Refusal.{Refusal};
 ghost use Rattle.kt_base.specs.declared.refusals.FrontErr.TheVariants as front_err;
+ghost use Rattle.kt_tree.specs.Tokens.{ends_alone};
 ghost use Rattle.kt_tree.specs.declared.tokens.Token.{Token};
 ghost use Rattle.kt_lexer.specs.Sources.{AreTokensOfSource, IsSourceRefused, IsBrokenOff};
 
@@ -25,6 +26,7 @@ use std::str;
 /// `NoMemory`: memory ran out.
 pub fn lex_bytes(alloc: Global, bytes: &[u8]) -> Result<Vec<Token>, FrontErr>
     ensures tokens { IfOk result (λ ts. AreTokensOfSource bytes.now ts.items) }
+    ensures ends { IfOk result (λ ts. ends_alone ts.items ≡ true) }
     ensures only { (ts : List Token) → AreTokensOfSource bytes.now ts
         → MatchResult result (λ found. found.items ≡ ts) (λ e. e ≡ front_err.NoMemory) }
     ensures refused { (r : Refusal) → result ≡ Err (front_err.Refused r) → IsSourceRefused bytes.now r }

@@ -21,7 +21,8 @@ use Rattle.kt_grammar.proofs.FunctionsRead.{Expressions, Statements}
 use Rattle.kt_grammar.proofs.FilesRead.{expressions_are_read, statements_are_read, file_correct, read_is_file_over}
 use Rattle.kt_grammar.proofs.FileLaws.{file_is_read, file_is_refused}
 use Rattle.kt_grammar.proofs.LevelsRead.{levels_read}
-use Rattle.kt_parser.specs.Trees.{IsPlaceAt, IsSyntaxRefused, ends_alone}
+use Rattle.kt_tree.specs.Tokens.{ends_alone}
+use Rattle.kt_parser.specs.Trees.{IsPlaceAt, IsSyntaxRefused}
 
 -- ---- the end of the text comes last in a file, and nothing stands behind it
 

@@ -1,3 +1,3 @@
 pub mod Files
-pub mod LastTokens
 pub mod OneAnswer
+pub mod EachSource

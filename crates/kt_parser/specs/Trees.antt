@@ -1,18 +1,11 @@
--- Where a list of tokens is refused, and the condition on the lists that are parsed.
-use Rattle.std.specs.Prelude.{◌≡◌, ℕ, ◌-◌, min, Bool, true, false, not, ◌&&◌, List, [], ◌∷◌, length, Some}
+-- Where a list of tokens is refused.
+use Rattle.std.specs.Prelude.{◌≡◌, ℕ, ◌-◌, min, List, length, Some}
 use Rattle.std.specs.List.{slice_get}
 use Rattle.kt_base.specs.declared.refusals.Kind.TheVariants as stage
 use Rattle.kt_base.specs.declared.refusals.Pos.{Pos}
 use Rattle.kt_base.specs.declared.refusals.Refusal.{Refusal}
 use Rattle.kt_tree.specs.declared.tokens.Token.{Token}
 use Rattle.kt_grammar.specs.Declarations.{IsFileRefusedAt}
-use Rattle.kt_grammar.specs.Terminals.{is_end}
-
--- the last token, and no other, is the end of the text
-abbrev pub ends_alone : List Token → Bool
-ends_alone [] = false
-ends_alone (t ∷ []) = is_end t
-ends_alone (t ∷ u ∷ ts) = not (is_end t) && ends_alone (u ∷ ts)
 
 -- the token at this index is at this place; behind the last one there is the place of the last
 abbrev pub IsPlaceAt : List Token → ℕ → Pos → Type 0

@@ -1,6 +1,6 @@
 //! Laws of sources, each the contract of a function that does nothing.
 
-ghost use Rattle.kt_parser.specs.Laws.{OneSourceRefusal, OneSourceTree, TreeExcludesRefusal};
+ghost use Rattle.kt_parser.specs.Laws.{OneSourceRefusal, OneSourceTree, TreeExcludesRefusal, TreeOrRefusal};
 
 /// A source has one tree at most.
 pub fn one_source_tree()
@@ -15,4 +15,9 @@ pub fn one_source_refusal()
 /// A source that has a tree isn't refused.
 pub fn tree_excludes_refusal()
     ensures { TreeExcludesRefusal }
+{}
+
+/// A source has a tree, or is refused.
+pub fn tree_or_refusal()
+    ensures { TreeOrRefusal }
 {}

@@ -5,7 +5,7 @@ mod laws;
 mod sources;
 mod trees;
 
-pub use laws::{one_source_refusal, one_source_tree, tree_excludes_refusal};
+pub use laws::{one_source_refusal, one_source_tree, tree_excludes_refusal, tree_or_refusal};
 pub use sources::read_source;
 pub use trees::parse;
 

@@ -3,7 +3,8 @@
 ghost use Rattle.kt_base.specs.declared.refusals.FrontErr.TheVariants as front_err;
 ghost use Rattle.kt_base.specs.declared.refusals.Refusal.{Refusal};
 ghost use Rattle.kt_grammar.specs.Declarations.{IsFileOf};
-ghost use Rattle.kt_parser.specs.Trees.{IsPlaceAt, IsSyntaxRefused, ends_alone};
+ghost use Rattle.kt_parser.specs.Trees.{IsPlaceAt, IsSyntaxRefused};
+ghost use Rattle.kt_tree.specs.Tokens.{ends_alone};
 ghost use Rattle.kt_tree.specs.Declarations.{DeclarationTree, file_tree};
 ghost use Rattle.std.specs.Prelude.{◌≡◌, ◌⊎◌, ◌<◌, ◌-◌, Err, IfOk, List, MatchResult, length, true};
 

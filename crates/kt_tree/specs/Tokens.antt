@@ -1,5 +1,5 @@
 -- Tests on tokens.
-use Rattle.std.specs.Prelude.{ℕ, Bool, true, false, ◌==◌, List, [], ◌∷◌}
+use Rattle.std.specs.Prelude.{ℕ, Bool, true, false, not, ◌&&◌, ◌==◌, List, [], ◌∷◌}
 use Rattle.std.specs.Cmp.Lexicographic.{pointwise}
 use denote.Enum.Bare.{sameb}
 use Rattle.kt_tree.specs.contracts.tokens.Keyword as keyword_kind
@@ -75,3 +75,17 @@ is_identifier token = kind_is_identifier token.kind
 
 abbrev pub is_new_line : Token → Bool
 is_new_line token = kind_is_new_line token.kind
+
+abbrev pub kind_is_end : TokenKind → Bool
+kind_is_end kind.End = true
+kind_is_end _ = false
+
+-- the end of the text
+abbrev pub is_end : Token → Bool
+is_end token = kind_is_end token.kind
+
+-- the last token, and no other, is the end of the text
+abbrev pub ends_alone : List Token → Bool
+ends_alone [] = false
+ends_alone (t ∷ []) = is_end t
+ends_alone (t ∷ u ∷ ts) = not (is_end t) && ends_alone (u ∷ ts)

@@ -1,13 +1,12 @@
 use Rattle.std.proofs.Common.{◌≡◌, List, true, sym, subst, ◌∙◌}
 use Rattle.kt_tree.specs.declared.tokens.Token.{Token}
 use Rattle.kt_grammar.specs.Declarations.{IsFileOf}
-use Rattle.kt_parser.specs.Trees.{ends_alone}
-use Rattle.kt_parser.proofs.LastTokens.{end_is_last}
+use Rattle.kt_tree.specs.Tokens.{ends_alone}
 use Rattle.kt_first.proofs.Found.{front_only, code_is, code_only, prints_values}
 use Rattle.kt_first.proofs.reading.parse_first.Goals as goal
 
 pub parse-requires : goal.parse-requires
-parse-requires c = subst (λ (z : List Token). ends_alone z ≡ true) (sym c.as_slice.ensures.value) (end_is_last _ _ _ _ c.in_ok-tokens.ensures.tokens.tokens)
+parse-requires c = subst (λ (z : List Token). ends_alone z ≡ true) (sym c.as_slice.ensures.value) c.in_ok-tokens.ensures.ends
 
 pub returns-in_err-file-clause-only : goal.returns-in_err-file-clause-only
 returns-in_err-file-clause-only c p x =

@@ -1,6 +1,7 @@
 use Rattle.std.proofs.Common.{◌≡◌, Some, None, inl, length, sym, ap, subst, ◌∙◌, arith}
 use Rattle.kt_lexer.specs.Texts.{in_string, AreTokensOf}
 use Rattle.kt_lexer.specs.Scanning.{lexeme_of, NamesAreWords, shape_at}
+use Rattle.kt_lexer.proofs.LastTokens.{end_is_last}
 use Rattle.kt_lexer.proofs.Standing.{stands_next, refusal_at, refused_is, ended_tokens_are, ended_only, ended_breaks, refused_here, refused_only, refused_no_tokens, found_names, found_shorter, found_less}
 use Rattle.kt_lexer.proofs.lexing.tokens_of.Goals as goal
 
@@ -61,3 +62,6 @@ pub returns-else-has_ended-clause-refuses : goal.returns-else-has_ended-clause-r
 returns-else-has_ended-clause-refuses c at breaks =
     let none : shape_at (in_string c.loop-shape.openings) c.loop-shape.rest.now ≡ None = sym (c.in_default.ensures ∙ ap (λ b. shape_at b c.loop-shape.rest.now) c.in_string.ensures) in
     inl (refusal_at (sym (refused_only c.args.chars.now c.loop-shape.openings c.loop-shape.place c.loop-shape.rest.now c.loop-shape.tokens.items c.loop-shape.invariant.stands none (sym c.has_ended.ensures ∙ c.if-has_ended.false) at breaks)))
+
+pub returns-in_ok-push-clause-ends : goal.returns-in_ok-push-clause-ends
+returns-in_ok-push-clause-ends c = end_is_last _ _ _ _ (returns-in_ok-push-clause-tokens c)
