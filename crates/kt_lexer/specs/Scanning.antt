@@ -20,6 +20,7 @@ use Rattle.kt_lexer.specs.declared.shapes.Shape.{Shape}
 use Rattle.kt_lexer.specs.declared.shapes.Shape.TheVariants as shape
 use Rattle.kt_lexer.specs.Lexemes.{first, AllPass, is_letter, is_digit, is_word, is_hexadecimal, hexadecimal, is_plain, is_run, keyword_text, value_of}
 use Rattle.kt_lexer.specs.Texts.{Lexeme, of_kind, blank, in_string, after_token, counts}
+use Rattle.kt_lexer.specs.Characters as char
 
 -- a shape and the characters behind it
 abbrev pub Found : Type 0
@@ -43,8 +44,10 @@ passed text rest = take (length text - length rest) text
 -- ---- words
 
 unfoldable pub keywords : List Keyword
-keywords = word.As ∷ word.Break ∷ word.Class ∷ word.Continue ∷ word.Do ∷ word.Else ∷ word.False ∷ word.For ∷ word.Fun ∷ word.If ∷ word.In ∷ word.Interface ∷ word.Is ∷ word.Null
-    ∷ word.Object ∷ word.Package ∷ word.Return ∷ word.Super ∷ word.This ∷ word.Throw ∷ word.True ∷ word.Try ∷ word.TypeAlias ∷ word.TypeOf ∷ word.Val ∷ word.Var ∷ word.When ∷ word.While ∷ []
+keywords = word.As ∷ word.Break ∷ word.Class ∷ word.Continue ∷ word.Do ∷ word.Else ∷ word.False ∷ word.For ∷ word.Fun
+    ∷ word.If ∷ word.In ∷ word.Interface ∷ word.Is ∷ word.Null
+    ∷ word.Object ∷ word.Package ∷ word.Return ∷ word.Super ∷ word.This ∷ word.Throw ∷ word.True ∷ word.Try
+    ∷ word.TypeAlias ∷ word.TypeOf ∷ word.Val ∷ word.Var ∷ word.When ∷ word.While ∷ []
 
 -- the keyword that is written so
 unfoldable pub keyword_of : List ℕ → Option Keyword
@@ -56,7 +59,8 @@ word_shape (Some k) = shape.Keyword k
 
 -- what stands behind `as?`
 abbrev pub behind_safe_as : List ℕ → Option (List ℕ)
-behind_safe_as (a ∷ b ∷ c ∷ rest) = if (a == 97) && (b == 115) && (c == 63) then Some rest else None
+behind_safe_as (a ∷ b ∷ c ∷ rest) = if (a == char.lower_a) && (b == char.lower_s) && (c == char.question_mark)
+    then Some rest else None
 behind_safe_as _ = None
 
 abbrev pub safe_as_or : Option (List ℕ) → Shape × List ℕ → Shape × List ℕ
@@ -65,19 +69,24 @@ safe_as_or (Some rest) other = (shape.Sign sign.SafeAs, rest)
 
 -- `as?`, a keyword or a name, where a letter stands first
 unfoldable pub word_at : List ℕ → Shape × List ℕ
-word_at text = safe_as_or (behind_safe_as text) (word_shape (keyword_of (passed text (behind is_word text))), behind is_word text)
+word_at text =
+    safe_as_or (behind_safe_as text) (
+      word_shape (keyword_of (passed text (behind is_word text))),
+      behind is_word text,
+    )
 
 -- ---- numbers
 
 -- what stands behind `0`, or behind digits
 abbrev pub behind_number : List ℕ → List ℕ
 behind_number [] = []
-behind_number (c ∷ cs) = if c == 48 then cs else behind is_digit (c ∷ cs)
+behind_number (c ∷ cs) = if c == char.zero then cs else behind is_digit (c ∷ cs)
 
 -- the number, long where an `L` follows
 abbrev pub numbered : Option ℕ → List ℕ → Shape × List ℕ
 numbered value [] = (shape.Number (record { value = value; long = false }), [])
-numbered value (c ∷ cs) = if c == 76 then (shape.Number (record { value = value; long = true }), cs) else (shape.Number (record { value = value; long = false }), c ∷ cs)
+numbered value (c ∷ cs) = if c == char.upper_l then (shape.Number (record { value = value; long = true }), cs)
+    else (shape.Number (record { value = value; long = false }), c ∷ cs)
 
 -- a number, where a digit stands first
 unfoldable pub number_at : List ℕ → Shape × List ℕ
@@ -87,8 +96,10 @@ number_at text = numbered (value_of (passed text (behind_number text))) (behind_
 
 -- what `\` and this character stand for
 unfoldable pub simple_escape : ℕ → Option ℕ
-simple_escape c = if c == 116 then Some 9 else if c == 98 then Some 8 else if c == 110 then Some 10 else if c == 114 then Some 13
-    else if c == 39 then Some 39 else if c == 34 then Some 34 else if c == 92 then Some 92 else if c == 36 then Some 36 else None
+simple_escape c = if c == char.lower_t then Some char.tab else if c == char.lower_b then Some char.backspace
+    else if c == char.lower_n then Some char.line_feed else if c == char.lower_r then Some char.carriage_return
+    else if c == char.quote then Some char.quote else if c == char.double_quote then Some char.double_quote
+    else if c == char.backslash then Some char.backslash else if c == char.dollar then Some char.dollar else None
 
 -- the code unit of four hexadecimal digits
 abbrev pub unit_of : ℕ → ℕ → ℕ → ℕ → ℕ
@@ -96,7 +107,8 @@ unit_of a b c d = 4096 * hexadecimal a + 256 * hexadecimal b + 16 * hexadecimal 
 
 -- four hexadecimal digits
 unfoldable pub four_digits : List ℕ → Option (ℕ × List ℕ)
-four_digits (a ∷ b ∷ c ∷ d ∷ rest) = if is_hexadecimal a && is_hexadecimal b && is_hexadecimal c && is_hexadecimal d then Some (unit_of a b c d, rest) else None
+four_digits (a ∷ b ∷ c ∷ d ∷ rest) = if is_hexadecimal a && is_hexadecimal b && is_hexadecimal c && is_hexadecimal d
+    then Some (unit_of a b c d, rest) else None
 four_digits _ = None
 
 abbrev pub simple_or : Option ℕ → List ℕ → Option (ℕ × List ℕ)
@@ -106,12 +118,12 @@ simple_or (Some unit) rest = Some (unit, rest)
 -- an escape whose `\` has been read
 unfoldable pub escape_at : List ℕ → Option (ℕ × List ℕ)
 escape_at [] = None
-escape_at (c ∷ cs) = if c == 117 then four_digits cs else simple_or (simple_escape c) cs
+escape_at (c ∷ cs) = if c == char.lower_u then four_digits cs else simple_or (simple_escape c) cs
 
 -- the character, where the closing `'` follows
 abbrev pub closed_character : ℕ → List ℕ → Found
 closed_character unit [] = None
-closed_character unit (c ∷ cs) = if c == 39 then Some (shape.Character unit, cs) else None
+closed_character unit (c ∷ cs) = if c == char.quote then Some (shape.Character unit, cs) else None
 
 abbrev pub escaped_character : Option (ℕ × List ℕ) → Found
 escaped_character None = None
@@ -120,13 +132,14 @@ escaped_character (Some found) = closed_character found.0 found.1
 -- a character whose opening `'` has been read
 unfoldable pub character_at : List ℕ → Found
 character_at [] = None
-character_at (c ∷ cs) = if is_plain c then closed_character c cs else if c == 92 then escaped_character (escape_at cs) else None
+character_at (c ∷ cs) = if is_plain c then closed_character c cs
+    else if c == char.backslash then escaped_character (escape_at cs) else None
 
 -- ---- comments
 
 -- a line's end is at the front, where the text doesn't end before
 abbrev pub at_line_end : ℕ → List ℕ → Bool
-at_line_end c cs = (c == 10) || ((c == 13) && first (λ d. d == 10) cs)
+at_line_end c cs = (c == char.line_feed) || ((c == char.carriage_return) && first (λ d. d == char.line_feed) cs)
 
 -- from the line's end on
 abbrev pub line_rest : List ℕ → List ℕ
@@ -134,10 +147,10 @@ line_rest [] = []
 line_rest (c ∷ cs) = if at_line_end c cs then c ∷ cs else line_rest cs
 
 abbrev pub opens_comment : ℕ → ℕ → Bool
-opens_comment c d = (c == 47) && (d == 42)
+opens_comment c d = (c == char.slash) && (d == char.asterisk)
 
 abbrev pub closes_comment : ℕ → ℕ → Bool
-closes_comment c d = (c == 42) && (d == 47)
+closes_comment c d = (c == char.asterisk) && (d == char.slash)
 
 -- what stands behind a comment that lies inside so many others, and behind these
 abbrev pub comment_rest : ℕ → List ℕ → Option (List ℕ)
@@ -156,25 +169,38 @@ blank_before (Some rest) = Some (shape.Blank, rest)
 -- the sign of these two characters
 unfoldable pub double_sign : ℕ → ℕ → Option Sign
 double_sign c d =
-    if c == 43 then (if d == 43 then Some sign.Increment else if d == 61 then Some sign.PlusAssign else None)
-    else if c == 45 then (if d == 45 then Some sign.Decrement else if d == 61 then Some sign.MinusAssign else if d == 62 then Some sign.Arrow else None)
-    else if c == 33 then (if d == 61 then Some sign.NotEqual else if d == 33 then Some sign.NotNull else None)
-    else if c == 63 then (if d == 46 then Some sign.SafeDot else if d == 58 then Some sign.Elvis else None)
-    else if d == 61 then (if c == 42 then Some sign.TimesAssign else if c == 47 then Some sign.DivideAssign else if c == 37 then Some sign.RemainderAssign
-    else if c == 61 then Some sign.Equal else if c == 60 then Some sign.LessOrEqual else if c == 62 then Some sign.GreaterOrEqual else None)
+    if c == char.plus then (if d == char.plus then Some sign.Increment
+    else if d == char.equals then Some sign.PlusAssign else None)
+    else if c == char.minus then (if d == char.minus then Some sign.Decrement
+    else if d == char.equals then Some sign.MinusAssign else if d == char.greater then Some sign.Arrow else None)
+    else if c == char.exclamation_mark then
+    (if d == char.equals then Some sign.NotEqual else if d == char.exclamation_mark then Some sign.NotNull else None)
+    else if c == char.question_mark then
+    (if d == char.dot then Some sign.SafeDot else if d == char.colon then Some sign.Elvis else None)
+    else if d == char.equals then (if c == char.asterisk then Some sign.TimesAssign
+    else if c == char.slash then Some sign.DivideAssign else if c == char.percent then Some sign.RemainderAssign
+    else if c == char.equals then Some sign.Equal else if c == char.less then Some sign.LessOrEqual
+    else if c == char.greater then Some sign.GreaterOrEqual else None)
     else if not (c == d) then None
-    else if c == 38 then Some sign.Both else if c == 124 then Some sign.Either else if c == 46 then Some sign.Range else None
+    else if c == char.ampersand then Some sign.Both else if c == char.bar then Some sign.Either
+    else if c == char.dot then Some sign.Range else None
 
 -- the sign of this character
 unfoldable pub single_sign : ℕ → Option Sign
 single_sign c =
-    if c == 40 then Some sign.OpenParenthesis else if c == 41 then Some sign.CloseParenthesis
-    else if c == 91 then Some sign.OpenBracket else if c == 93 then Some sign.CloseBracket
-    else if c == 123 then Some sign.OpenBrace else if c == 125 then Some sign.CloseBrace
-    else if c == 46 then Some sign.Dot else if c == 44 then Some sign.Comma else if c == 58 then Some sign.Colon else if c == 59 then Some sign.Semicolon
-    else if c == 61 then Some sign.Assign else if c == 43 then Some sign.Plus else if c == 45 then Some sign.Minus else if c == 42 then Some sign.Times
-    else if c == 47 then Some sign.Divide else if c == 37 then Some sign.Remainder else if c == 60 then Some sign.Less else if c == 62 then Some sign.Greater
-    else if c == 33 then Some sign.Not else if c == 63 then Some sign.Question else None
+    if c == char.open_parenthesis then Some sign.OpenParenthesis
+    else if c == char.close_parenthesis then Some sign.CloseParenthesis
+    else if c == char.open_bracket then Some sign.OpenBracket
+    else if c == char.close_bracket then Some sign.CloseBracket
+    else if c == char.open_brace then Some sign.OpenBrace else if c == char.close_brace then Some sign.CloseBrace
+    else if c == char.dot then Some sign.Dot else if c == char.comma then Some sign.Comma
+    else if c == char.colon then Some sign.Colon else if c == char.semicolon then Some sign.Semicolon
+    else if c == char.equals then Some sign.Assign else if c == char.plus then Some sign.Plus
+    else if c == char.minus then Some sign.Minus else if c == char.asterisk then Some sign.Times
+    else if c == char.slash then Some sign.Divide else if c == char.percent then Some sign.Remainder
+    else if c == char.less then Some sign.Less else if c == char.greater then Some sign.Greater
+    else if c == char.exclamation_mark then Some sign.Not
+    else if c == char.question_mark then Some sign.Question else None
 
 abbrev pub single_at : Option Sign → List ℕ → Found
 single_at None rest = None
@@ -191,36 +217,39 @@ sign_at c (d ∷ rest) = double_or (double_sign c d) rest (single_at (single_sig
 
 -- a comment or a sign whose first `/` has been read
 unfoldable pub slash_at : List ℕ → Found
-slash_at [] = sign_at 47 []
-slash_at (d ∷ cs) = if d == 47 then Some (shape.Blank, line_rest cs) else if d == 42 then blank_before (comment_rest 0 cs) else sign_at 47 (d ∷ cs)
+slash_at [] = sign_at char.slash []
+slash_at (d ∷ cs) = if d == char.slash then Some (shape.Blank, line_rest cs)
+    else if d == char.asterisk then blank_before (comment_rest 0 cs) else sign_at char.slash (d ∷ cs)
 
 -- what stands behind `is`, where no letter, digit or `_` follows
 abbrev pub behind_is : List ℕ → Option (List ℕ)
-behind_is (c ∷ d ∷ rest) = if (c == 105) && (d == 115) && not (first is_word rest) then Some rest else None
+behind_is (c ∷ d ∷ rest) = if (c == char.lower_i) && (d == char.lower_s) && not (first is_word rest)
+    then Some rest else None
 behind_is _ = None
 
 -- a sign whose first `!` has been read
 unfoldable pub exclamation_at : List ℕ → Found
-exclamation_at text = double_or (option_map (λ rest. sign.NotIs) (behind_is text)) (drop 2 text) (sign_at 33 text)
+exclamation_at text =
+    double_or (option_map (λ rest. sign.NotIs) (behind_is text)) (drop 2 text) (sign_at char.exclamation_mark text)
 
 -- ---- what stands outside of strings
 
 -- a line feed behind a carriage return
 abbrev pub line_feed_at : List ℕ → Found
 line_feed_at [] = None
-line_feed_at (c ∷ cs) = if c == 10 then Some (shape.NewLine, cs) else None
+line_feed_at (c ∷ cs) = if c == char.line_feed then Some (shape.NewLine, cs) else None
 
 unfoldable pub ordinary_at : List ℕ → Found
 ordinary_at [] = None
 ordinary_at (c ∷ cs) = if is_letter c then Some (word_at (c ∷ cs))
     else if is_digit c then Some (number_at (c ∷ cs))
-    else if (c == 32) || (c == 9) then Some (shape.Blank, cs)
-    else if c == 10 then Some (shape.NewLine, cs)
-    else if c == 13 then line_feed_at cs
-    else if c == 34 then Some (shape.OpenQuote, cs)
-    else if c == 39 then character_at cs
-    else if c == 47 then slash_at cs
-    else if c == 33 then exclamation_at cs
+    else if (c == char.space) || (c == char.tab) then Some (shape.Blank, cs)
+    else if c == char.line_feed then Some (shape.NewLine, cs)
+    else if c == char.carriage_return then line_feed_at cs
+    else if c == char.double_quote then Some (shape.OpenQuote, cs)
+    else if c == char.quote then character_at cs
+    else if c == char.slash then slash_at cs
+    else if c == char.exclamation_mark then exclamation_at cs
     else sign_at c cs
 
 -- ---- what stands in strings
@@ -237,7 +266,7 @@ part_at text = part_before (keyword_of (passed text (behind is_word text))) (beh
 unfoldable pub dollar_at : List ℕ → Shape × List ℕ
 dollar_at [] = (shape.Dollar, [])
 dollar_at (c ∷ cs) = if is_letter c then part_at (c ∷ cs)
-    else if c == 123 then (shape.OpenTemplate, cs)
+    else if c == char.open_brace then (shape.OpenTemplate, cs)
     else (shape.Dollar, c ∷ cs)
 
 abbrev pub string_escape : Option (ℕ × List ℕ) → Found
@@ -247,9 +276,9 @@ string_escape (Some found) = Some (shape.Escape found.0, found.1)
 unfoldable pub string_part_at : List ℕ → Found
 string_part_at [] = None
 string_part_at (c ∷ cs) = if is_run c then Some (shape.Run, behind is_run cs)
-    else if c == 34 then Some (shape.CloseQuote, cs)
-    else if c == 36 then Some (dollar_at cs)
-    else if c == 92 then string_escape (escape_at cs)
+    else if c == char.double_quote then Some (shape.CloseQuote, cs)
+    else if c == char.dollar then Some (dollar_at cs)
+    else if c == char.backslash then string_escape (escape_at cs)
     else None
 
 -- the lexeme at the front of a text, within a string or not

@@ -30,5 +30,7 @@ pub record AreTokensOfSource (bytes : List ℕ) (ts : List Token) : Type 0 where
 -- why a source has no tokens, and where: it is too long before all else
 pub data IsSourceRefused (bytes : List ℕ) : Refusal → Type 0 where
   too_long : 1048576 < length bytes → IsSourceRefused bytes (record { kind = stage.Size; pos = text_start })
-  no_token : {at : Pos} → length bytes ≤ 1048576 → IsUtf8 bytes → IsLexRefusedAt (chars bytes) at → IsSourceRefused bytes (lex_refusal at)
-  no_text : {r : Refusal} → length bytes ≤ 1048576 → (IsUtf8 bytes → ⊥) → IsBrokenOff (chars (valid_front bytes)) r → IsSourceRefused bytes r
+  no_token : {at : Pos} → length bytes ≤ 1048576 → IsUtf8 bytes → IsLexRefusedAt (chars bytes) at
+      → IsSourceRefused bytes (lex_refusal at)
+  no_text : {r : Refusal} → length bytes ≤ 1048576 → (IsUtf8 bytes → ⊥) → IsBrokenOff (chars (valid_front bytes)) r
+      → IsSourceRefused bytes r

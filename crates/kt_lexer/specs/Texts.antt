@@ -11,6 +11,7 @@ use Rattle.kt_lexer.specs.contracts.brackets.Open as open_kind
 use Rattle.kt_lexer.specs.declared.brackets.Open.{Open}
 use Rattle.kt_lexer.specs.declared.brackets.Open.TheVariants as opening
 use Rattle.kt_lexer.specs.Lexemes.{IsOrdinary, IsInString, IsBlank}
+use Rattle.kt_lexer.specs.Characters as char
 
 -- the same bracket, or a string both
 unfoldable pub same_open : Open → Open → Bool
@@ -56,7 +57,8 @@ after_token _ opens = opens
 
 -- the place behind a character
 abbrev pub behind_character : Pos → ℕ → Pos
-behind_character at c = if c == 10 then record { line = at.line + 1; column = 1 } else record { line = at.line; column = at.column + 1 }
+behind_character at c = if c == char.line_feed then record { line = at.line + 1; column = 1 }
+    else record { line = at.line; column = at.column + 1 }
 
 -- the place behind some characters
 abbrev pub place_behind : Pos → List ℕ → Pos
@@ -76,7 +78,8 @@ pub data IsLexeme : Bool → List ℕ → List ℕ → Lexeme → Type 0 where
 -- the longest that the front of the text spells
 pub record IsLongest (within : Bool) (u rest : List ℕ) (found : Lexeme) : Type 0 where
   pub lexeme : IsLexeme within u rest found
-  pub longest : (v more : List ℕ) (other : Lexeme) → u ++ rest ≡ v ++ more → IsLexeme within v more other → length v ≤ length u
+  pub longest : (v more : List ℕ) (other : Lexeme) → u ++ rest ≡ v ++ more → IsLexeme within v more other
+      → length v ≤ length u
 
 abbrev pub is_line_end : TokenKind → Bool
 is_line_end kind.NewLine = true
@@ -88,12 +91,17 @@ counts opens k = not (is_line_end k && drops_lines opens)
 
 -- The text from this place on has these tokens, where this is open. END comes last, at the place of the end.
 pub data AreTokens : List Open → Pos → List ℕ → List Token → Type 0 where
-  at_end : {opens : List Open} {at : Pos} → in_string opens ≡ false → AreTokens opens at [] (record { kind = kind.End; pos = at } ∷ [])
-  token : {opens : List Open} {at : Pos} {u rest : List ℕ} {k : TokenKind} {ts : List Token} → IsLongest (in_string opens) u rest (of_kind k) → counts opens k ≡ true
-      → AreTokens (after_token k opens) (place_behind at u) rest ts → AreTokens opens at (u ++ rest) (record { kind = k; pos = at } ∷ ts)
-  dropped : {opens : List Open} {at : Pos} {u rest : List ℕ} {k : TokenKind} {ts : List Token} → IsLongest (in_string opens) u rest (of_kind k) → counts opens k ≡ false
+  at_end : {opens : List Open} {at : Pos} → in_string opens ≡ false
+      → AreTokens opens at [] (record { kind = kind.End; pos = at } ∷ [])
+  token : {opens : List Open} {at : Pos} {u rest : List ℕ} {k : TokenKind} {ts : List Token}
+      → IsLongest (in_string opens) u rest (of_kind k) → counts opens k ≡ true
+      → AreTokens (after_token k opens) (place_behind at u) rest ts
+      → AreTokens opens at (u ++ rest) (record { kind = k; pos = at } ∷ ts)
+  dropped : {opens : List Open} {at : Pos} {u rest : List ℕ} {k : TokenKind} {ts : List Token}
+      → IsLongest (in_string opens) u rest (of_kind k) → counts opens k ≡ false
       → AreTokens opens (place_behind at u) rest ts → AreTokens opens at (u ++ rest) ts
-  skipped : {opens : List Open} {at : Pos} {u rest : List ℕ} {ts : List Token} → IsLongest (in_string opens) u rest blank
+  skipped : {opens : List Open} {at : Pos} {u rest : List ℕ} {ts : List Token}
+      → IsLongest (in_string opens) u rest blank
       → AreTokens opens (place_behind at u) rest ts → AreTokens opens at (u ++ rest) ts
 
 -- At this place no token begins: its character begins none, or the text ends in a string.
@@ -104,7 +112,8 @@ pub record NoneBegins (opens : List Open) (text : List ℕ) : Type 0 where
 -- the text from this place on has no tokens, since none begins at that one
 pub data BreaksAt : List Open → Pos → List ℕ → Pos → Type 0 where
   here : {opens : List Open} {at : Pos} {text : List ℕ} → NoneBegins opens text → BreaksAt opens at text at
-  behind_token : {opens : List Open} {at place : Pos} {u rest : List ℕ} {k : TokenKind} → IsLongest (in_string opens) u rest (of_kind k)
+  behind_token : {opens : List Open} {at place : Pos} {u rest : List ℕ} {k : TokenKind}
+      → IsLongest (in_string opens) u rest (of_kind k)
       → BreaksAt (after_token k opens) (place_behind at u) rest place → BreaksAt opens at (u ++ rest) place
   behind_blank : {opens : List Open} {at place : Pos} {u rest : List ℕ} → IsLongest (in_string opens) u rest blank
       → BreaksAt opens (place_behind at u) rest place → BreaksAt opens at (u ++ rest) place

@@ -30,9 +30,13 @@ use std::alloc::Global;
 pub fn lex(alloc: Global, text: &str) -> Result<Vec<Token>, FrontErr>
     requires { length text.now < 2 ^ 32 - 1 }
     ensures tokens { IfOk result (λ ts. AreTokensOf (chars text.now) ts.items) }
-    ensures only { (ts : List Token) → AreTokensOf (chars text.now) ts → MatchResult result (λ found. found.items ≡ ts) (λ e. e ≡ front_err.NoMemory) }
-    ensures refused { (r : Refusal) → result ≡ Err (front_err.Refused r) → (r.kind ≡ stage.Lex) × IsLexRefusedAt (chars text.now) r.pos }
-    ensures refuses { (at : Pos) → IsLexRefusedAt (chars text.now) at → MatchResult result (λ found. ⊥) (λ e. (e ≡ front_err.Refused (record { kind = stage.Lex; pos = at })) ⊎ (e ≡ front_err.NoMemory)) }
+    ensures only { (ts : List Token) → AreTokensOf (chars text.now) ts
+        → MatchResult result (λ found. found.items ≡ ts) (λ e. e ≡ front_err.NoMemory) }
+    ensures refused { (r : Refusal) → result ≡ Err (front_err.Refused r)
+        → (r.kind ≡ stage.Lex) × IsLexRefusedAt (chars text.now) r.pos }
+    ensures refuses { (at : Pos) → IsLexRefusedAt (chars text.now) at
+        → MatchResult result (λ found. ⊥)
+        (λ e. (e ≡ front_err.Refused (record { kind = stage.Lex; pos = at })) ⊎ (e ≡ front_err.NoMemory)) }
 {
     let characters = characters(alloc, text)?;
     tokens_of(alloc, characters.as_slice())
@@ -49,9 +53,13 @@ pub fn characters(alloc: Global, text: &str) -> Result<Vec<char>, NoMemory>
 pub fn tokens_of(alloc: Global, chars: &[char]) -> Result<Vec<Token>, FrontErr>
     requires { length chars.now < 2 ^ 32 - 1 }
     ensures tokens { IfOk result (λ ts. AreTokensOf chars.now ts.items) }
-    ensures only { (ts : List Token) → AreTokensOf chars.now ts → MatchResult result (λ found. found.items ≡ ts) (λ e. e ≡ front_err.NoMemory) }
-    ensures refused { (r : Refusal) → result ≡ Err (front_err.Refused r) → (r.kind ≡ stage.Lex) × IsLexRefusedAt chars.now r.pos }
-    ensures refuses { (at : Pos) → IsLexRefusedAt chars.now at → MatchResult result (λ found. ⊥) (λ e. (e ≡ front_err.Refused (record { kind = stage.Lex; pos = at })) ⊎ (e ≡ front_err.NoMemory)) }
+    ensures only { (ts : List Token) → AreTokensOf chars.now ts
+        → MatchResult result (λ found. found.items ≡ ts) (λ e. e ≡ front_err.NoMemory) }
+    ensures refused { (r : Refusal) → result ≡ Err (front_err.Refused r)
+        → (r.kind ≡ stage.Lex) × IsLexRefusedAt chars.now r.pos }
+    ensures refuses { (at : Pos) → IsLexRefusedAt chars.now at
+        → MatchResult result (λ found. ⊥)
+        (λ e. (e ≡ front_err.Refused (record { kind = stage.Lex; pos = at })) ⊎ (e ≡ front_err.NoMemory)) }
 {
     let mut tokens = Vec::new(alloc);
     let mut openings = Openings::new(alloc);
@@ -97,8 +105,11 @@ fn take_lexeme(
     front: &[char],
 ) -> Result<(), NoMemory>
     requires { scanning.NamesAreWords (scanning.lexeme_of shape front.now) }
-    ensures tokens { OnOk result (tokens.new.items ≡ tokens.old.items ++ scanning.seen openings.old place (scanning.lexeme_of shape front.now)) }
-    ensures openings { OnOk result (openings.new ≡ scanning.after_lexeme (scanning.lexeme_of shape front.now) openings.old) }
+    ensures tokens { OnOk result
+        (tokens.new.items ≡ tokens.old.items
+        ++ scanning.seen openings.old place (scanning.lexeme_of shape front.now)) }
+    ensures openings { OnOk result
+        (openings.new ≡ scanning.after_lexeme (scanning.lexeme_of shape front.now) openings.old) }
 {
     match kind_of(alloc, shape, front)? {
         Some(kind) => take_token(tokens, openings, Token { kind, pos: place }),
@@ -112,7 +123,8 @@ fn take_token(
     openings: &mut Openings,
     token: Token,
 ) -> Result<(), NoMemory>
-    ensures tokens { OnOk result (tokens.new.items ≡ tokens.old.items ++ scanning.seen openings.old token.pos (spec.of_kind token.kind)) }
+    ensures tokens { OnOk result
+        (tokens.new.items ≡ tokens.old.items ++ scanning.seen openings.old token.pos (spec.of_kind token.kind)) }
     ensures openings { OnOk result (openings.new ≡ spec.after_token token.kind openings.old) }
 {
     let counts = counts(openings, &token.kind);

@@ -25,7 +25,8 @@ pub fn sign_at(first: char, chars: &[char]) -> Option<(Shape, &[char])>
 
 /// A sign of this character alone.
 fn single_at(first: char, chars: &[char]) -> Option<(Shape, &[char])>
-    ensures { option_map (λ found. (found.0, found.1.now)) result ≡ scanning.single_at (scanning.single_sign first) chars.now }
+    ensures { option_map (λ found. (found.0, found.1.now)) result ≡ scanning.single_at
+        (scanning.single_sign first) chars.now }
 {
     match single_sign(first) {
         Some(sign) => Some((Shape::Sign(sign), chars)),

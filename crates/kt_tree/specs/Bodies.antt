@@ -172,15 +172,21 @@ OfStatementKind = Pos → StatementTree
 
 -- One node, with each child already seen as its tree.
 
-abbrev pub body_seen : ControlStructureBody-F BodyTree OfKind OfStatementKind PartTree ConditionTree BlockTree CatchTree ExpressionTree LambdaTree StatementTree EntryTree → BodyTree
+abbrev pub body_seen :
+    ControlStructureBody-F BodyTree OfKind OfStatementKind PartTree ConditionTree BlockTree CatchTree ExpressionTree
+    LambdaTree StatementTree EntryTree → BodyTree
 body_seen (ControlStructureBody-F.Braces b) = braces b
 body_seen (ControlStructureBody-F.Single s) = single s
 
-abbrev pub condition_seen : WhenCondition-F BodyTree OfKind OfStatementKind PartTree ConditionTree BlockTree CatchTree ExpressionTree LambdaTree StatementTree EntryTree → ConditionTree
+abbrev pub condition_seen :
+    WhenCondition-F BodyTree OfKind OfStatementKind PartTree ConditionTree BlockTree CatchTree ExpressionTree
+    LambdaTree StatementTree EntryTree → ConditionTree
 condition_seen (WhenCondition-F.Equals e) = equals e
 condition_seen (WhenCondition-F.OfType not t) = of_type not (type_tree t)
 
-abbrev pub kind_seen : ExpressionKind-F BodyTree OfKind OfStatementKind PartTree ConditionTree BlockTree CatchTree ExpressionTree LambdaTree StatementTree EntryTree → OfKind
+abbrev pub kind_seen :
+    ExpressionKind-F BodyTree OfKind OfStatementKind PartTree ConditionTree BlockTree CatchTree ExpressionTree
+    LambdaTree StatementTree EntryTree → OfKind
 kind_seen (ExpressionKind-F.Literal l) at = literal at l
 kind_seen (ExpressionKind-F.Template ps) at = template at (parts_of ps)
 kind_seen (ExpressionKind-F.Name x) at = name at x
@@ -203,13 +209,17 @@ kind_seen (ExpressionKind-F.Return e) at = return at (maybe_expression e)
 kind_seen ExpressionKind-F.Break at = break at
 kind_seen ExpressionKind-F.Continue at = continue at
 
-abbrev pub part_seen : StringPart-F BodyTree OfKind OfStatementKind PartTree ConditionTree BlockTree CatchTree ExpressionTree LambdaTree StatementTree EntryTree → PartTree
+abbrev pub part_seen :
+    StringPart-F BodyTree OfKind OfStatementKind PartTree ConditionTree BlockTree CatchTree ExpressionTree LambdaTree
+    StatementTree EntryTree → PartTree
 part_seen (StringPart-F.Text t) = text t
 part_seen (StringPart-F.NamePart x) = name_part x
 part_seen StringPart-F.ThisPart = this_part
 part_seen (StringPart-F.Hole e) = hole e
 
-abbrev pub statement_kind_seen : StatementKind-F BodyTree OfKind OfStatementKind PartTree ConditionTree BlockTree CatchTree ExpressionTree LambdaTree StatementTree EntryTree → OfStatementKind
+abbrev pub statement_kind_seen :
+    StatementKind-F BodyTree OfKind OfStatementKind PartTree ConditionTree BlockTree CatchTree ExpressionTree
+    LambdaTree StatementTree EntryTree → OfStatementKind
 statement_kind_seen (StatementKind-F.Local var x t e) at = local at var x (maybe_type t) (maybe_expression e)
 statement_kind_seen (StatementKind-F.Assign e o a) at = assign at e o a
 statement_kind_seen (StatementKind-F.Step e o) at = step at e o
@@ -218,49 +228,88 @@ statement_kind_seen (StatementKind-F.DoWhile b e) at = do_while at b e
 statement_kind_seen (StatementKind-F.For x a o c b) at = for at x a o c b
 statement_kind_seen (StatementKind-F.Evaluate e) at = evaluate at e
 
-abbrev pub block_seen : Block-F BodyTree OfKind OfStatementKind PartTree ConditionTree BlockTree CatchTree ExpressionTree LambdaTree StatementTree EntryTree → BlockTree
+abbrev pub block_seen :
+    Block-F BodyTree OfKind OfStatementKind PartTree ConditionTree BlockTree CatchTree ExpressionTree LambdaTree
+    StatementTree EntryTree → BlockTree
 block_seen b = block (statements_of b.statements) b.end
 
-abbrev pub catch_seen : CatchBlock-F BodyTree OfKind OfStatementKind PartTree ConditionTree BlockTree CatchTree ExpressionTree LambdaTree StatementTree EntryTree → CatchTree
+abbrev pub catch_seen :
+    CatchBlock-F BodyTree OfKind OfStatementKind PartTree ConditionTree BlockTree CatchTree ExpressionTree LambdaTree
+    StatementTree EntryTree → CatchTree
 catch_seen c = catch c.name (type_tree c.exception) c.body
 
-abbrev pub entry_seen : WhenEntry-F BodyTree OfKind OfStatementKind PartTree ConditionTree BlockTree CatchTree ExpressionTree LambdaTree StatementTree EntryTree → EntryTree
+abbrev pub entry_seen :
+    WhenEntry-F BodyTree OfKind OfStatementKind PartTree ConditionTree BlockTree CatchTree ExpressionTree LambdaTree
+    StatementTree EntryTree → EntryTree
 entry_seen e = entry (conditions_of e.conditions) e.body
 
-abbrev pub expression_seen : Expression-F BodyTree OfKind OfStatementKind PartTree ConditionTree BlockTree CatchTree ExpressionTree LambdaTree StatementTree EntryTree → ExpressionTree
+abbrev pub expression_seen :
+    Expression-F BodyTree OfKind OfStatementKind PartTree ConditionTree BlockTree CatchTree ExpressionTree LambdaTree
+    StatementTree EntryTree → ExpressionTree
 expression_seen e = e.kind e.at
 
-abbrev pub lambda_seen : LambdaLiteral-F BodyTree OfKind OfStatementKind PartTree ConditionTree BlockTree CatchTree ExpressionTree LambdaTree StatementTree EntryTree → LambdaTree
+abbrev pub lambda_seen :
+    LambdaLiteral-F BodyTree OfKind OfStatementKind PartTree ConditionTree BlockTree CatchTree ExpressionTree
+    LambdaTree StatementTree EntryTree → LambdaTree
 lambda_seen l = lambda_of (map parameter_tree l.parameters) l.body
 
-abbrev pub statement_seen : Statement-F BodyTree OfKind OfStatementKind PartTree ConditionTree BlockTree CatchTree ExpressionTree LambdaTree StatementTree EntryTree → StatementTree
+abbrev pub statement_seen :
+    Statement-F BodyTree OfKind OfStatementKind PartTree ConditionTree BlockTree CatchTree ExpressionTree LambdaTree
+    StatementTree EntryTree → StatementTree
 statement_seen s = s.kind s.at
 
 -- The views.
 
 abbrev pub expression_tree : Expression → ExpressionTree
-expression_tree = fold-Expression BodyTree OfKind OfStatementKind PartTree ConditionTree BlockTree CatchTree ExpressionTree LambdaTree StatementTree EntryTree body_seen kind_seen statement_kind_seen part_seen condition_seen block_seen catch_seen expression_seen lambda_seen statement_seen entry_seen
+expression_tree =
+    fold-Expression BodyTree OfKind OfStatementKind PartTree ConditionTree BlockTree CatchTree ExpressionTree
+    LambdaTree StatementTree EntryTree body_seen kind_seen statement_kind_seen part_seen condition_seen block_seen
+    catch_seen expression_seen lambda_seen statement_seen entry_seen
 
 abbrev pub statement_tree : Statement → StatementTree
-statement_tree = fold-Statement BodyTree OfKind OfStatementKind PartTree ConditionTree BlockTree CatchTree ExpressionTree LambdaTree StatementTree EntryTree body_seen kind_seen statement_kind_seen part_seen condition_seen block_seen catch_seen expression_seen lambda_seen statement_seen entry_seen
+statement_tree =
+    fold-Statement BodyTree OfKind OfStatementKind PartTree ConditionTree BlockTree CatchTree ExpressionTree
+    LambdaTree StatementTree EntryTree body_seen kind_seen statement_kind_seen part_seen condition_seen block_seen
+    catch_seen expression_seen lambda_seen statement_seen entry_seen
 
 abbrev pub block_tree : Block → BlockTree
-block_tree = fold-Block BodyTree OfKind OfStatementKind PartTree ConditionTree BlockTree CatchTree ExpressionTree LambdaTree StatementTree EntryTree body_seen kind_seen statement_kind_seen part_seen condition_seen block_seen catch_seen expression_seen lambda_seen statement_seen entry_seen
+block_tree =
+    fold-Block BodyTree OfKind OfStatementKind PartTree ConditionTree BlockTree CatchTree ExpressionTree LambdaTree
+    StatementTree EntryTree body_seen kind_seen statement_kind_seen part_seen condition_seen block_seen catch_seen
+    expression_seen lambda_seen statement_seen entry_seen
 
 abbrev pub body_tree : ControlStructureBody → BodyTree
-body_tree = fold-ControlStructureBody BodyTree OfKind OfStatementKind PartTree ConditionTree BlockTree CatchTree ExpressionTree LambdaTree StatementTree EntryTree body_seen kind_seen statement_kind_seen part_seen condition_seen block_seen catch_seen expression_seen lambda_seen statement_seen entry_seen
+body_tree =
+    fold-ControlStructureBody BodyTree OfKind OfStatementKind PartTree ConditionTree BlockTree CatchTree
+    ExpressionTree LambdaTree StatementTree EntryTree body_seen kind_seen statement_kind_seen part_seen condition_seen
+    block_seen catch_seen expression_seen lambda_seen statement_seen entry_seen
 
 abbrev pub part_tree : StringPart → PartTree
-part_tree = fold-StringPart BodyTree OfKind OfStatementKind PartTree ConditionTree BlockTree CatchTree ExpressionTree LambdaTree StatementTree EntryTree body_seen kind_seen statement_kind_seen part_seen condition_seen block_seen catch_seen expression_seen lambda_seen statement_seen entry_seen
+part_tree =
+    fold-StringPart BodyTree OfKind OfStatementKind PartTree ConditionTree BlockTree CatchTree ExpressionTree
+    LambdaTree StatementTree EntryTree body_seen kind_seen statement_kind_seen part_seen condition_seen block_seen
+    catch_seen expression_seen lambda_seen statement_seen entry_seen
 
 abbrev pub condition_tree : WhenCondition → ConditionTree
-condition_tree = fold-WhenCondition BodyTree OfKind OfStatementKind PartTree ConditionTree BlockTree CatchTree ExpressionTree LambdaTree StatementTree EntryTree body_seen kind_seen statement_kind_seen part_seen condition_seen block_seen catch_seen expression_seen lambda_seen statement_seen entry_seen
+condition_tree =
+    fold-WhenCondition BodyTree OfKind OfStatementKind PartTree ConditionTree BlockTree CatchTree ExpressionTree
+    LambdaTree StatementTree EntryTree body_seen kind_seen statement_kind_seen part_seen condition_seen block_seen
+    catch_seen expression_seen lambda_seen statement_seen entry_seen
 
 abbrev pub entry_tree : WhenEntry → EntryTree
-entry_tree = fold-WhenEntry BodyTree OfKind OfStatementKind PartTree ConditionTree BlockTree CatchTree ExpressionTree LambdaTree StatementTree EntryTree body_seen kind_seen statement_kind_seen part_seen condition_seen block_seen catch_seen expression_seen lambda_seen statement_seen entry_seen
+entry_tree =
+    fold-WhenEntry BodyTree OfKind OfStatementKind PartTree ConditionTree BlockTree CatchTree ExpressionTree
+    LambdaTree StatementTree EntryTree body_seen kind_seen statement_kind_seen part_seen condition_seen block_seen
+    catch_seen expression_seen lambda_seen statement_seen entry_seen
 
 abbrev pub catch_tree : CatchBlock → CatchTree
-catch_tree = fold-CatchBlock BodyTree OfKind OfStatementKind PartTree ConditionTree BlockTree CatchTree ExpressionTree LambdaTree StatementTree EntryTree body_seen kind_seen statement_kind_seen part_seen condition_seen block_seen catch_seen expression_seen lambda_seen statement_seen entry_seen
+catch_tree =
+    fold-CatchBlock BodyTree OfKind OfStatementKind PartTree ConditionTree BlockTree CatchTree ExpressionTree
+    LambdaTree StatementTree EntryTree body_seen kind_seen statement_kind_seen part_seen condition_seen block_seen
+    catch_seen expression_seen lambda_seen statement_seen entry_seen
 
 abbrev pub lambda_tree : LambdaLiteral → LambdaTree
-lambda_tree = fold-LambdaLiteral BodyTree OfKind OfStatementKind PartTree ConditionTree BlockTree CatchTree ExpressionTree LambdaTree StatementTree EntryTree body_seen kind_seen statement_kind_seen part_seen condition_seen block_seen catch_seen expression_seen lambda_seen statement_seen entry_seen
+lambda_tree =
+    fold-LambdaLiteral BodyTree OfKind OfStatementKind PartTree ConditionTree BlockTree CatchTree ExpressionTree
+    LambdaTree StatementTree EntryTree body_seen kind_seen statement_kind_seen part_seen condition_seen block_seen
+    catch_seen expression_seen lambda_seen statement_seen entry_seen

@@ -64,7 +64,18 @@ pub record FunctionTree : Type 0 where
   pub body : Option FunctionBodyTree
 
 abbrev pub function_tree : FunctionDeclaration → FunctionTree
-function_tree f = record { at = f.at; modifiers = f.modifiers; type_parameters = map type_parameter_tree f.type_parameters; name = f.name; parameters = map typed_parameter_tree f.parameters; result = maybe_type f.result; body = maybe_function_body f.body }
+function_tree f =
+    record {
+      at = f.at;
+      modifiers = f.modifiers;
+      type_parameters = map type_parameter_tree f.type_parameters;
+      name =
+          f.name;
+      parameters = map typed_parameter_tree f.parameters;
+      result = maybe_type f.result;
+      body =
+          maybe_function_body f.body;
+    }
 
 pub record ConstructorParameterTree : Type 0 where
   pub kind : ConstructorParameterKind
@@ -100,7 +111,15 @@ pub record PropertyTree : Type 0 where
   pub initializer : ExpressionTree
 
 abbrev pub property_tree : PropertyDeclaration → PropertyTree
-property_tree p = record { at = p.at; is_variable = p.is_variable; name = p.name; annotation = type_tree p.annotation; initializer = expression_tree p.initializer }
+property_tree p =
+    record {
+      at = p.at;
+      is_variable = p.is_variable;
+      name = p.name;
+      annotation = type_tree p.annotation;
+      initializer =
+          expression_tree p.initializer;
+    }
 
 pub data MemberTree : Type 0 where
   method : FunctionTree → MemberTree
@@ -120,7 +139,18 @@ pub record ClassTree : Type 0 where
   pub members : List MemberTree
 
 abbrev pub class_tree : ClassDeclaration → ClassTree
-class_tree c = record { at = c.at; modifiers = c.modifiers; name = c.name; type_parameters = map type_parameter_tree c.type_parameters; parameters = map constructor_parameter_tree c.parameters; supertypes = map supertype_tree c.supertypes; members = map member_tree c.members }
+class_tree c =
+    record {
+      at = c.at;
+      modifiers = c.modifiers;
+      name = c.name;
+      type_parameters = map type_parameter_tree
+          c.type_parameters;
+      parameters = map constructor_parameter_tree c.parameters;
+      supertypes =
+          map supertype_tree c.supertypes;
+      members = map member_tree c.members;
+    }
 
 pub record InterfaceTree : Type 0 where
   pub at : Pos
@@ -130,7 +160,15 @@ pub record InterfaceTree : Type 0 where
   pub functions : List FunctionTree
 
 abbrev pub interface_tree : InterfaceDeclaration → InterfaceTree
-interface_tree i = record { at = i.at; name = i.name; type_parameters = map type_parameter_tree i.type_parameters; supertypes = map type_tree i.supertypes; functions = map function_tree i.functions }
+interface_tree i =
+    record {
+      at = i.at;
+      name = i.name;
+      type_parameters = map type_parameter_tree i.type_parameters;
+      supertypes = map
+          type_tree i.supertypes;
+      functions = map function_tree i.functions;
+    }
 
 pub record ConstantTree : Type 0 where
   pub at : Pos

@@ -1,6 +1,6 @@
 -- How many levels a tree has. A node that no other node holds is at level 1, each other one is one below the node that
--- holds it. Declarations, blocks and lists of statements are no level of their own, parentheses are one. A type is at the
--- level of what it belongs to, and each type in it is one below.
+-- holds it. Declarations, blocks and lists of statements are no level of their own, parentheses are one. A type is at
+-- the level of what it belongs to, and each type in it is one below.
 use Rattle.std.specs.Prelude.{ℕ, ◌+◌, ◌-◌, max, min, Bool, true, false, List, [], ◌∷◌, Option, Some, None, map}
 use Rattle.kt_tree.specs.declared.declarations.ConstantValue.{ConstantValue}
 use Rattle.kt_tree.specs.declared.declarations.ConstantValue.TheVariants as value
@@ -65,7 +65,8 @@ abbrev mutual
   levels (e.not_null at a) = levels a + 1
   levels (e.member at a safe x) = levels a + 1
   levels (e.index at a b) = max (levels a) (levels b) + 1
-  levels (e.call at f rs es) = max (max (below_call f (levels f)) (expressions_levels es) + 1) (most (map type_levels rs))
+  levels (e.call at f rs es) =
+      max (max (below_call f (levels f)) (expressions_levels es) + 1) (most (map type_levels rs))
   levels (e.if_else at a b c) = max (levels a) (max (body_levels b) (maybe_body_levels c)) + 1
   levels (e.when at a es) = max (maybe_levels a) (entries_levels es) + 1
   levels (e.try_catch at b cs f) = max (block_levels b) (max (catches_levels cs) (maybe_block_levels f)) + 1
@@ -158,7 +159,9 @@ function_body_levels (Some (d.braces b)) = block_levels b
 function_body_levels (Some (d.result a)) = levels a
 
 abbrev pub function_levels : FunctionTree → ℕ
-function_levels f = max (max (most (map type_parameter_levels f.type_parameters)) (most (map typed_parameter_levels f.parameters))) (max (maybe_type_levels f.result) (function_body_levels f.body))
+function_levels f =
+    max (max (most (map type_parameter_levels f.type_parameters)) (most (map typed_parameter_levels f.parameters)))
+    (max (maybe_type_levels f.result) (function_body_levels f.body))
 
 abbrev pub constructor_parameter_levels : ConstructorParameterTree → ℕ
 constructor_parameter_levels p = type_levels p.annotation
@@ -175,10 +178,15 @@ member_levels (d.method f) = function_levels f
 member_levels (d.property p) = max (type_levels p.annotation) (levels p.initializer)
 
 abbrev pub class_levels : ClassTree → ℕ
-class_levels c = max (max (most (map type_parameter_levels c.type_parameters)) (most (map constructor_parameter_levels c.parameters))) (max (most (map supertype_levels c.supertypes)) (most (map member_levels c.members)))
+class_levels c =
+    max (max (most (map type_parameter_levels c.type_parameters))
+    (most (map constructor_parameter_levels c.parameters)))
+    (max (most (map supertype_levels c.supertypes)) (most (map member_levels c.members)))
 
 abbrev pub interface_levels : InterfaceTree → ℕ
-interface_levels i = max (most (map type_parameter_levels i.type_parameters)) (max (most (map type_levels i.supertypes)) (most (map function_levels i.functions)))
+interface_levels i =
+    max (most (map type_parameter_levels i.type_parameters))
+    (max (most (map type_levels i.supertypes)) (most (map function_levels i.functions)))
 
 abbrev pub several : List TextPart → ℕ
 several (p ∷ q ∷ rest) = 1

@@ -26,14 +26,18 @@ is_word x w = pointwise ◌==◌ x w
 
 -- the names of coroutines
 unfoldable pub is_of_coroutines : List ℕ → Bool
-is_of_coroutines x = is_word x (codes "launch") || is_word x (codes "suspendCoroutine") || is_word x (codes "Continuation")
+is_of_coroutines x = is_word x (codes "launch") || is_word x (codes "suspendCoroutine")
+    || is_word x (codes "Continuation")
 
 -- the names of throwables
 unfoldable pub is_throwable : List ℕ → Bool
 is_throwable x = is_word x (codes "Throwable") || is_word x (codes "Exception") || is_word x (codes "RuntimeException")
-    || is_word x (codes "IllegalStateException") || is_word x (codes "IllegalArgumentException") || is_word x (codes "ArithmeticException")
-    || is_word x (codes "NullPointerException") || is_word x (codes "ClassCastException") || is_word x (codes "NegativeArraySizeException")
-    || is_word x (codes "IndexOutOfBoundsException") || is_word x (codes "ArrayIndexOutOfBoundsException") || is_word x (codes "StringIndexOutOfBoundsException")
+    || is_word x (codes "IllegalStateException") || is_word x (codes "IllegalArgumentException")
+    || is_word x (codes "ArithmeticException")
+    || is_word x (codes "NullPointerException") || is_word x (codes "ClassCastException")
+    || is_word x (codes "NegativeArraySizeException")
+    || is_word x (codes "IndexOutOfBoundsException") || is_word x (codes "ArrayIndexOutOfBoundsException")
+    || is_word x (codes "StringIndexOutOfBoundsException")
 
 -- of a name by itself, wherever it stands
 abbrev pub name_stage : List ℕ → ℕ
@@ -92,7 +96,8 @@ abbrev mutual
   stage (e.not_null at a) = stage a
   stage (e.member at a safe x) = max (stage a) (name_stage x)
   stage (e.index at a b) = max (stage a) (stage b)
-  stage (e.call at f rs es) = max (stage f) (max (types_stage (called_argument_stage f) (types_of rs)) (expressions_stage es))
+  stage (e.call at f rs es) =
+      max (stage f) (max (types_stage (called_argument_stage f) (types_of rs)) (expressions_stage es))
   stage (e.if_else at a b c) = max (stage a) (max (body_stage b) (maybe_body_stage c))
   stage (e.when at a es) = max (maybe_stage a) (entries_stage es)
   stage (e.try_catch at b cs f) = max 8 (max (block_stage b) (max (catches_stage cs) (maybe_block_stage f)))
@@ -186,7 +191,10 @@ function_body_stage (Some (d.braces b)) = block_stage b
 function_body_stage (Some (d.result a)) = stage a
 
 abbrev pub function_stage : FunctionTree → ℕ
-function_stage f = max (max (suspend_stage f.modifiers.is_suspend) (name_stage f.name)) (max (max (most (map type_parameter_stage f.type_parameters)) (most (map typed_parameter_stage f.parameters))) (max (maybe_type_stage f.result) (function_body_stage f.body)))
+function_stage f =
+    max (max (suspend_stage f.modifiers.is_suspend) (name_stage f.name))
+    (max (max (most (map type_parameter_stage f.type_parameters)) (most (map typed_parameter_stage f.parameters)))
+    (max (maybe_type_stage f.result) (function_body_stage f.body)))
 
 abbrev pub constructor_parameter_stage : ConstructorParameterTree → ℕ
 constructor_parameter_stage p = max (name_stage p.name) (type_stage p.annotation)
@@ -203,10 +211,15 @@ member_stage (d.method f) = function_stage f
 member_stage (d.property p) = max (name_stage p.name) (max (type_stage p.annotation) (stage p.initializer))
 
 abbrev pub class_stage : ClassTree → ℕ
-class_stage c = max (max 4 (name_stage c.name)) (max (max (most (map type_parameter_stage c.type_parameters)) (most (map constructor_parameter_stage c.parameters))) (max (most (map supertype_stage c.supertypes)) (most (map member_stage c.members))))
+class_stage c =
+    max (max 4 (name_stage c.name)) (max
+    (max (most (map type_parameter_stage c.type_parameters)) (most (map constructor_parameter_stage c.parameters)))
+    (max (most (map supertype_stage c.supertypes)) (most (map member_stage c.members))))
 
 abbrev pub interface_stage : InterfaceTree → ℕ
-interface_stage i = max (max 4 (name_stage i.name)) (max (most (map type_parameter_stage i.type_parameters)) (max (types_stage 0 (types_of i.supertypes)) (most (map function_stage i.functions))))
+interface_stage i =
+    max (max 4 (name_stage i.name)) (max (most (map type_parameter_stage i.type_parameters))
+    (max (types_stage 0 (types_of i.supertypes)) (most (map function_stage i.functions))))
 
 abbrev pub enum_entry_stage : EnumEntry → ℕ
 enum_entry_stage x = name_stage x.name

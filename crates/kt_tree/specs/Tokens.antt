@@ -11,6 +11,7 @@ use Rattle.kt_tree.specs.declared.tokens.SoftKeyword.TheVariants as soft
 use Rattle.kt_tree.specs.declared.tokens.TokenKind.{TokenKind}
 use Rattle.kt_tree.specs.declared.tokens.TokenKind.TheVariants as kind
 use Rattle.kt_tree.specs.declared.tokens.Token.{Token}
+use Rattle.std.specs.Prelude.{codes}
 
 unfoldable pub same_keyword : Keyword → Keyword → Bool
 same_keyword = sameb keyword_kind.the_type
@@ -20,22 +21,22 @@ same_sign = sameb sign_kind.the_type
 
 -- how a soft keyword is written, in ASCII
 abbrev pub spelling : SoftKeyword → List ℕ
-spelling soft.Abstract = 97 ∷ 98 ∷ 115 ∷ 116 ∷ 114 ∷ 97 ∷ 99 ∷ 116 ∷ []
-spelling soft.Catch = 99 ∷ 97 ∷ 116 ∷ 99 ∷ 104 ∷ []
-spelling soft.Const = 99 ∷ 111 ∷ 110 ∷ 115 ∷ 116 ∷ []
-spelling soft.Data = 100 ∷ 97 ∷ 116 ∷ 97 ∷ []
-spelling soft.Enum = 101 ∷ 110 ∷ 117 ∷ 109 ∷ []
-spelling soft.Finally = 102 ∷ 105 ∷ 110 ∷ 97 ∷ 108 ∷ 108 ∷ 121 ∷ []
-spelling soft.Open = 111 ∷ 112 ∷ 101 ∷ 110 ∷ []
-spelling soft.Override = 111 ∷ 118 ∷ 101 ∷ 114 ∷ 114 ∷ 105 ∷ 100 ∷ 101 ∷ []
-spelling soft.Suspend = 115 ∷ 117 ∷ 115 ∷ 112 ∷ 101 ∷ 110 ∷ 100 ∷ []
-spelling soft.And = 97 ∷ 110 ∷ 100 ∷ []
-spelling soft.Or = 111 ∷ 114 ∷ []
-spelling soft.Xor = 120 ∷ 111 ∷ 114 ∷ []
-spelling soft.Shl = 115 ∷ 104 ∷ 108 ∷ []
-spelling soft.Shr = 115 ∷ 104 ∷ 114 ∷ []
-spelling soft.Ushr = 117 ∷ 115 ∷ 104 ∷ 114 ∷ []
-spelling soft.Until = 117 ∷ 110 ∷ 116 ∷ 105 ∷ 108 ∷ []
+spelling soft.Abstract = codes "abstract"
+spelling soft.Catch = codes "catch"
+spelling soft.Const = codes "const"
+spelling soft.Data = codes "data"
+spelling soft.Enum = codes "enum"
+spelling soft.Finally = codes "finally"
+spelling soft.Open = codes "open"
+spelling soft.Override = codes "override"
+spelling soft.Suspend = codes "suspend"
+spelling soft.And = codes "and"
+spelling soft.Or = codes "or"
+spelling soft.Xor = codes "xor"
+spelling soft.Shl = codes "shl"
+spelling soft.Shr = codes "shr"
+spelling soft.Ushr = codes "ushr"
+spelling soft.Until = codes "until"
 
 abbrev pub kind_is_keyword : Keyword → TokenKind → Bool
 kind_is_keyword k (kind.Keyword found) = same_keyword found k

@@ -89,7 +89,8 @@ fn function_parameters_levels(parameters: &[Parameter]) -> u32
 }
 
 fn constructor_parameters_levels(parameters: &[ConstructorParameter]) -> u32
-    ensures { result ≡ counted (most (map spec.constructor_parameter_levels (map constructor_parameter_tree parameters.now))) }
+    ensures { result ≡ counted (most
+        (map spec.constructor_parameter_levels (map constructor_parameter_tree parameters.now))) }
 {
     let mut most = 0;
     for parameter in parameters {

@@ -15,8 +15,8 @@ impl FileTree {
     /// How much of the language the file asks for: the first that holds of
     /// - 9 where a `suspend` or one of the names `launch`, `suspendCoroutine` and `Continuation` stands in it;
     /// - 8 where a lambda, a function type, `throw`, `try`, or the name of a throwable stands in it;
-    /// - 4 where a class, an interface, an enum, `this`, type parameters, or type arguments that aren't behind `Array` or
-    ///   `arrayOfNulls` stand in it;
+    /// - 4 where a class, an interface, an enum, `this`, type parameters, or type arguments that aren't behind `Array`
+    ///   or `arrayOfNulls` stand in it;
     /// - 3 otherwise.
     pub fn stage(&self) -> u32
         ensures { result ≡ spec.file_stage (file_tree self.now) }

@@ -1,8 +1,8 @@
 //! Tokens and the syntax tree of the language.
 //!
-//! A token has a kind and a place. The tree has one kind of node for each production of the grammar; what a later stage
-//! may blame carries the place of its first token. The folder `specs/` has, for each recursive tree, a mirror: plain data
-//! that definitions match on, with the view that shows a tree as its mirror.
+//! A token has a kind and a place. The tree has one kind of node for each production of the grammar; what a later
+//! stage may blame carries the place of its first token. The folder `specs/` has, for each recursive tree, a mirror:
+//! plain data that definitions match on, with the view that shows a tree as its mirror.
 #![tactic(auto)]
 
 pub mod bodies;
