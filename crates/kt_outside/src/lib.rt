@@ -13,6 +13,3 @@ pub use memory::{MemFiles, MemSink};
 pub use outside::{Failed, FileErr, Files, Sink};
 pub use real::{RealFiles, RealSink};
 pub use writing::write_all;
-
-#[cfg(test)]
-mod tests;

@@ -1,6 +1,7 @@
 //! What the program asks of the outside.
 
-ghost use Rattle.std.specs.Prelude.{◌≡◌, ◌≢◌, ℕ, ◌<◌, ◌≤◌, List, ◌++◌, Option, length, take, IfOk, OnOk, OnErr, IsErr};
+ghost use Rattle.std.specs.Prelude.{◌≡◌, ◌≢◌, ℕ, ◌<◌, ◌≤◌, List, ◌++◌, Option, length, take};
+ghost use Rattle.std.specs.Prelude.{IfOk, OnOk, OnErr, IsErr};
 ghost use Rattle.std.specs.Io.KnownBytes.{Appends, Keeps};
 ghost use Rattle.kt_outside.specs.Held.{Contents, file_in, Holds, Lacks, Replaces};
 ghost use Rattle.kt_outside.specs.Faults.{Rose, Adds};
@@ -45,10 +46,12 @@ pub trait Files {
     /// The names at which a put failed, in order. The list only grows.
     ghost put_faults: { Self → List (List ℕ) };
 
-    /// Appends the whole file of this name. An absent file is a fault.
+    /// Appends the whole file of this name, whether or not it is told what files hold. An absent file is a fault.
     fn read(&mut self, name: &str, into: &mut Vec<u8>) -> Result<(), FileErr>
-        ensures whole { (bytes : List ℕ) → Holds (held self.old) name.now bytes → OnOk result (into.new.items ≡ into.old.items ++ bytes) }
+        ensures whole { (bytes : List ℕ) → Holds (held self.old) name.now bytes
+            → OnOk result (into.new.items ≡ into.old.items ++ bytes) }
         ensures absent { Lacks (held self.old) name.now → IsErr result }
+        ensures appends { OnOk result ((more : List ℕ) × (into.new.items ≡ into.old.items ++ more)) }
         ensures unread { OnErr result (into.new.items ≡ into.old.items) }
 
         ensures failed { result ≡ Err FileErr.Failed → Adds name.now (read_faults self.old) (read_faults self.new) }
@@ -60,7 +63,8 @@ pub trait Files {
     /// Puts the bytes under this name, in place of what was there. After a fault this one file may hold anything.
     fn put(&mut self, name: &str, bytes: &[u8]) -> Result<(), FileErr>
         ensures replaced { OnOk result (Replaces (held self.new) name.now bytes.now) }
-        ensures others_stay { (other : List ℕ) → other ≢ name.now → file_in (held self.new) other ≡ file_in (held self.old) other }
+        ensures others_stay { (other : List ℕ) → other ≢ name.now
+            → file_in (held self.new) other ≡ file_in (held self.old) other }
 
         ensures failed { result ≡ Err FileErr.Failed → Adds name.now (put_faults self.old) (put_faults self.new) }
         ensures unfailed { result ≢ Err FileErr.Failed → put_faults self.new ≡ put_faults self.old }
