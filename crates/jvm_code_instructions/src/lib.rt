@@ -22,6 +22,3 @@ pub use laws::{bad_opcode_stays, read_is_written, row_tells_instruction, written
 pub use reading::instr_of;
 pub use sizes::size_of;
 pub use writing::put_instr;
-
-#[cfg(test)]
-mod tests;

@@ -53,3 +53,12 @@ abbrev pub IsSameDescriptor : Descriptor → Descriptor → Type 0
 IsSameDescriptor (descriptor.Field t) (descriptor.Field u) = t ≡ u
 IsSameDescriptor (descriptor.Method ts r) (descriptor.Method us s) = (ts.items ≡ us.items) × (r ≡ s)
 IsSameDescriptor _ _ = ⊥
+
+-- the text is the descriptor of a field, or of a method
+abbrev pub IsOfField : List ℕ → Type 0
+IsOfField text = (t : FieldType) × IsFieldType t × (text ≡ spelled_type t)
+
+abbrev pub IsOfMethod : List ℕ → Type 0
+IsOfMethod text =
+    (parameters : List FieldType) × (result : Option FieldType) × All IsFieldType parameters × IsResult result
+    × (text ≡ codes "(" ++ flat_map spelled_type parameters ++ codes ")" ++ spelled_result result)
