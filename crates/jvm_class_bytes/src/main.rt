@@ -3,7 +3,7 @@
 //! Its steps stand on standard input, one a line: `push` with a number, `add`, `sub`, `mul`, `print`.
 #![tactic(auto)]
 
-use jvm_class::{is_plain_code, write_plain};
+use jvm_class_first::{is_plain_code, write_plain};
 use kt_base::Plain;
 use std::io;
 

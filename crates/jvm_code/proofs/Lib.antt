@@ -3,4 +3,5 @@ pub mod Passes
 pub mod Following
 pub mod Lists
 pub mod Theorem
+pub mod Every
 pub mod Whys

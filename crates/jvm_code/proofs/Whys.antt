@@ -17,6 +17,7 @@ use Rattle.jvm_code.specs.Refusals.{Begins, IsReadTo, WhyNot}
 use Rattle.jvm_code_instructions.proofs.Fields.{IsBytes}
 use Rattle.jvm_code_instructions.proofs.Instructions.{row_takes, row_again}
 use Rattle.jvm_code.proofs.Lists.{code_takes}
+use Rattle.jvm_code.proofs.Every.{every_list}
 use Rattle.jvm_code_instructions.proofs.Steady.{bad_still}
 
 -- where the first pass stopped
@@ -142,7 +143,9 @@ why_of bytes (BadTarget at) lt fits (Second is h k bad e) =
     let t = code_takes (length bytes) (length bytes) bytes is lt (omega arith) (omega arith) fits h in
     let zero-is : length bytes - length bytes ≡ 0 = omega arith in
     let same : k ≡ at = cc in
-    (is, subst (λ (n : ℕ). Follows n is) zero-is t.0, t.1, subst (λ (n : ℕ). first_bad (starts_of is) is ≡ Some n) same bad)
+    let follows : Follows 0 is = subst (λ (n : ℕ). Follows n is) zero-is t.0 in
+    let first : first_bad (starts_of is) is ≡ Some at = subst (λ (n : ℕ). first_bad (starts_of is) is ≡ Some n) same bad in
+    ((is, follows, t.1, first), every_list bytes is at lt h follows first)
 
 refused : (bytes : List ℕ) (e : CodeErr) → length bytes < 2 ^ 32 → IsBytes bytes → Refuses e (decode_of bytes) → WhyNot bytes e
 unfolding decode_of

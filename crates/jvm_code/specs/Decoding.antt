@@ -31,8 +31,10 @@ stands starts reach at t = list_any (λ s. s == t) starts && (nat_lt at (t + rea
 abbrev pub aims : List ℕ → ℕ → Operands → Bool
 aims starts at (Near t) = stands starts 32768 at t
 aims starts at (Far t) = stands starts 2147483648 at t
-aims starts at (Table default low targets) = stands starts 2147483648 at default && list_all (λ t. stands starts 2147483648 at t) targets
-aims starts at (Lookup default pairs) = stands starts 2147483648 at default && list_all (λ p. stands starts 2147483648 at p.1) pairs
+aims starts at (Table default low targets) = stands starts 2147483648 at default
+    && list_all (λ t. stands starts 2147483648 at t) targets
+aims starts at (Lookup default pairs) = stands starts 2147483648 at default
+    && list_all (λ p. stands starts 2147483648 at p.1) pairs
 aims starts at Nothing = true
 aims starts at (Byte n) = true
 aims starts at (Half n) = true
@@ -77,7 +79,8 @@ in_front i (Ok is) = Ok (i ∷ is)
 in_front i (Err r) = Err r
 
 -- the instruction in front, and what is read behind it
-abbrev pub behind_first : ℕ → Result (Row × List ℕ) Fault → (List ℕ → Result (List (ℕ × Row)) CodeErr) → Result (List (ℕ × Row)) CodeErr
+abbrev pub behind_first : ℕ → Result (Row × List ℕ) Fault → (List ℕ → Result (List (ℕ × Row)) CodeErr)
+    → Result (List (ℕ × Row)) CodeErr
 behind_first at (Err f) more = Err (placed f at)
 behind_first at (Ok x) more = in_front (at, x.0) (more x.1)
 
@@ -86,7 +89,8 @@ unfoldable pub rows_at : ℕ → ℕ → List ℕ → Result (List (ℕ × Row))
 rows_at n total [] = Ok []
 rows_at zero total (b ∷ bytes) = Ok []
 rows_at (suc n) total (b ∷ bytes) =
-    behind_first (total - length (b ∷ bytes)) (row_at (total - length (b ∷ bytes)) (b ∷ bytes)) (λ rest. rows_at n total rest)
+    behind_first (total - length (b ∷ bytes)) (row_at (total - length (b ∷ bytes)) (b ∷ bytes))
+    (λ rest. rows_at n total rest)
 
 abbrev pub judged : List (ℕ × Row) → Option ℕ → Result (List (ℕ × Row)) CodeErr
 judged is None = Ok is

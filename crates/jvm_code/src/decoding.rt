@@ -59,15 +59,16 @@ fn code_of(alloc: Global, bytes: &[u8]) -> Result<Vec<(u32, Instr)>, CodeErr>
 /// first instruction that can't be read, from the front; then `BadTarget` at the first instruction that jumps to where
 /// none begins. Each has the offset of the start of the instruction. `BadOpcode` stands for an opcode that the table
 /// doesn't have and for an operand that its row doesn't allow: padding or a last byte that isn't zero, a count of zero
-/// at *invokeinterface*, another array type than `int`, a `low` above its `high`, numbers of a *lookupswitch* that don't
-/// ascend strictly, a negative count, a wide form of another instruction. `Cut` stands for bytes that end within an
-/// instruction whose operands are allowed as far as they are there whole.
+/// at *invokeinterface*, another array type than `int`, a `low` above its `high`, numbers of a *lookupswitch* that
+/// don't ascend strictly, a negative count, a wide form of another instruction. `Cut` stands for bytes that end within
+/// an instruction whose operands are allowed as far as they are there whole.
 pub fn decode(alloc: Global, bytes: &[u8]) -> Result<Vec<(u32, Instr)>, CodeErr>
     requires { length bytes.now < 2 ^ 32 }
     // What is decoded is laid, and spells the bytes.
     ensures found { IfOk result (λ v. IsLaid (rows v.items) × (bytes.now ≡ spelling (rows v.items))) }
     // What is laid and spells the bytes is decoded, unless memory runs out.
-    ensures only { (c : List (ℕ × Row)) → IsLaid c → bytes.now ≡ spelling c → Decodes (λ v. rows v.items) result (Ok c) }
+    ensures only { (c : List (ℕ × Row)) → IsLaid c → bytes.now ≡ spelling c
+        → Decodes (λ v. rows v.items) result (Ok c) }
     // Each error says what is wrong, and where.
     ensures why { IfErr result (λ e. WhyNot bytes.now e) }
     // Which error it is, in the order of the passes.

@@ -12,7 +12,8 @@ pub fn encoded_is_decoded()
 
 /// Two lists with one spelling are one list.
 pub fn spelling_has_one_list()
-    ensures { (c d : List (ℕ × Row)) → IsLaid c → IsLaid d → length (spelling c) < 2 ^ 32 → spelling c ≡ spelling d → c ≡ d }
+    ensures { (c d : List (ℕ × Row)) → IsLaid c → IsLaid d → length (spelling c) < 2 ^ 32
+        → spelling c ≡ spelling d → c ≡ d }
 {}
 
 /// What is decoded is laid and is encoded as the same bytes: nothing else is decoded.

@@ -19,6 +19,3 @@ pub use jvm_code_opcodes::{
 };
 pub use laws::{decoded_is_encoded, encoded_is_decoded, spelling_has_one_list};
 pub use layout::laid;
-
-#[cfg(test)]
-mod tests;

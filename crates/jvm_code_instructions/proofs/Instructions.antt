@@ -1,18 +1,18 @@
 -- An instruction that is read is the one that was written, and what was written is read again.
-use Rattle.std.proofs.Common.{◌≡◌, ℕ, ◌+◌, ◌-◌, ◌%◌, ◌^◌, ◌<◌, ◌≤◌, Bool, true, false, cond, List, [], ◌∷◌, ◌++◌, length, length-append, Option, Some, None, Result, Ok, Err, refl, sym, ap, subst, ◌∙◌, append_assoc, arith}
+use Rattle.std.proofs.Common.{◌≡◌, ℕ, ◌+◌, ◌-◌, ◌%◌, ◌^◌, ◌<◌, ◌≤◌, Bool, true, false, cond, List, [], ◌∷◌, ◌++◌, length, length-append, Option, Some, None, Result, Ok, Err, refl, sym, ap, subst, ◌∙◌, ◌⊎◌, inl, inr, append_assoc, arith}
 use Rattle.std.specs.Prelude.{◌==◌, int_lt, nat_lt, if◌then◌else◌, IfOk}
 use Rattle.std.specs.List.{flat_map}
 use Rattle.std.specs.Int.{w16, w32, to_be_bytes, cast_signed}
-use Rattle.std.proofs.lemmas.Bool.{ltb-true, lt-ltb, eqb-true}
+use Rattle.std.proofs.lemmas.Bool.{cases_lt, ltb-true, lt-ltb, eqb-true}
 use Rattle.jvm_code_instructions.specs.declared.fault.Fault.{Fault}
 use Rattle.jvm_code_instructions.specs.declared.fault.Fault.TheVariants.{BadOpcode}
 use Rattle.jvm_code_instructions.specs.Table.{Operands, Nothing, Byte, Half, LocalAmount, Near, Far, Called, Ints, Table, Lookup, Wide, WideAmount, Row, row, Shape, IsNothing, IsByte, IsHalf, IsLocalAmount, IsNear, IsFar, IsCalled, IsInts, IsTable, IsLookup, IsWide, WideShape, IsLocal, IsAmount, shape_of, local_shape, wide_shape}
 use Rattle.jvm_code_opcodes.specs.declared.opcodes.LoadOp.{LoadOp}
 use Rattle.jvm_code_opcodes.specs.declared.opcodes.StoreOp.{StoreOp}
 use Rattle.jvm_code_opcodes.specs.Opcodes.{load_op_of, store_op_of}
-use Rattle.jvm_code_instructions.specs.Spelling.{far_bytes, padding, high_of, pair_bytes, operand_bytes, row_bytes, from_least, Has, HasShape, Allowed}
-use Rattle.jvm_code_instructions.specs.Reach.{Reaches}
-use Rattle.jvm_code_instructions.specs.Reading.{◌>>=◌, Gives, byte_at, number_at, only_at, count_at, near_at, far_at, fars_at, zeros_at, pairs_at, table_at, lookup_at, called_at, ints_at, wide_at, wide_operands_at, operands_at, shaped_at, row_at}
+use Rattle.jvm_code_instructions.specs.Spelling.{distance, near_bytes, far_bytes, padding, high_of, pair_bytes, operand_bytes, row_bytes, from_least, Has, HasShape, Allowed}
+use Rattle.jvm_code_instructions.specs.Reach.{Reaches, IsWithin}
+use Rattle.jvm_code_instructions.specs.Reading.{◌>>=◌, Gives, byte_at, number_at, only_at, count_at, near_from, near_at, far_at, fars_at, zeros_at, pairs_at, table_at, lookup_at, called_at, ints_at, wide_at, wide_operands_at, operands_at, shaped_at, row_at}
 use Rattle.jvm_code_instructions.proofs.Fields.{IsBytes, IsBytes-rest, step_ok, unless_ok, where_ok, done, done_is, Takes, takes_nothing, takes_both, word, half, number_takes, number_again, byte_takes, only_takes, count_takes, count_again}
 use Rattle.jvm_code_instructions.proofs.Distances.{count_high, high_count}
 use Rattle.jvm_code_instructions.proofs.Shapes.{zeros_take, zeros_again, far_takes, far_reads, near_takes, near_reads, fars_take, fars_again, pairs_take, pairs_again}
@@ -211,7 +211,26 @@ operands_take IsTable at bytes x lt fits e = table_takes at bytes x lt fits e
 operands_take IsLookup at bytes x lt fits e = lookup_takes at bytes x lt fits e
 operands_take IsWide at bytes x lt fits e = wide_takes at bytes x fits e
 
-pub operands_again : (s : Shape) (at : ℕ) (o : Operands) (rest : List ℕ) → at < 2 ^ 32 → Has s o → Reaches at o → operands_at at s (operand_bytes at o ++ rest) ≡ Ok (o, rest)
+-- a target of two bytes is within reach; a distance of four bytes reaches every target
+abbrev pub NearReaches : ℕ → Operands → Type 0
+NearReaches at (Near t) = IsWithin (2 ^ 15) at t
+NearReaches at _ = Unit {0}
+
+near_reach : (at : ℕ) (o : Operands) → Reaches at o → NearReaches at o
+near_reach at Nothing reach = tt
+near_reach at (Byte n) reach = tt
+near_reach at (Half n) reach = tt
+near_reach at (LocalAmount n k) reach = tt
+near_reach at (Near t) reach = reach
+near_reach at (Far t) reach = tt
+near_reach at (Called p n) reach = tt
+near_reach at Ints reach = tt
+near_reach at (Table default low targets) reach = tt
+near_reach at (Lookup default pairs) reach = tt
+near_reach at (Wide c n) reach = tt
+near_reach at (WideAmount n k) reach = tt
+
+pub operands_again : (s : Shape) (at : ℕ) (o : Operands) (rest : List ℕ) → at < 2 ^ 32 → Has s o → NearReaches at o → operands_at at s (operand_bytes at o ++ rest) ≡ Ok (o, rest)
 unfolding operands_at
 operands_again IsNothing at Nothing rest lt fits reach = refl
 operands_again IsByte at (Byte n) rest lt fits reach = refl
@@ -246,15 +265,66 @@ row_takes at (c ∷ bytes) x lt fits e =
     let has : HasShape (shape_of x.0.opcode) x.0.operands = subst (λ (k : ℕ). HasShape (shape_of k) x.0.operands) (sym t.0) t.2 in
     (record { parts = rw t.0 (ap (λ (y : List ℕ). c ∷ y) t.1.parts); rest_fits = t.1.rest_fits }, (omega (arith, t.0), has))
 
-shaped_again : (o : Option Shape) (at c : ℕ) (os : Operands) (rest : List ℕ) → at < 2 ^ 32 → HasShape o os → Reaches at os → shaped_at at c o (operand_bytes at os ++ rest) ≡ Ok (row c os, rest)
+shaped_again : (o : Option Shape) (at c : ℕ) (os : Operands) (rest : List ℕ) → at < 2 ^ 32 → HasShape o os → NearReaches at os → shaped_at at c o (operand_bytes at os ++ rest) ≡ Ok (row c os, rest)
 unfolding shaped_at
 shaped_again None at c os rest lt fits reach = absurd fits
 shaped_again (Some s) at c os rest lt fits reach = rw (operands_again s at os rest lt fits reach) refl
 
+near_again_so : (at : ℕ) (r : Row) (rest : List ℕ) → at < 2 ^ 32 → Allowed r → NearReaches at r.operands → row_at at (row_bytes at r ++ rest) ≡ Ok (r, rest)
+unfolding row_at
+near_again_so at r rest lt fits reach = shaped_again (shape_of r.opcode) at r.opcode r.operands rest lt fits.1 reach
+
 -- what its row allows is read, whatever follows
 pub row_again : (at : ℕ) (r : Row) (rest : List ℕ) → at < 2 ^ 32 → Allowed r → Reaches at r.operands → row_at at (row_bytes at r ++ rest) ≡ Ok (r, rest)
+row_again at r rest lt fits reach = near_again_so at r rest lt fits (near_reach at r.operands reach)
+
+-- ---- instructions whose targets are out of reach
+
+-- a target of two bytes isn't within reach
+abbrev pub OutOfReach : ℕ → Operands → Type 0
+OutOfReach at (Near t) = ¬ IsWithin (2 ^ 15) at t
+OutOfReach at _ = ⊥
+
+-- an instruction that its row allows is read, as itself unless a target of two bytes is out of reach
+abbrev pub IsRead : ℕ → Row → List ℕ → Type 0
+IsRead at r rest = (x : Row) × (row_at at (row_bytes at r ++ rest) ≡ Ok (x, rest)) × ((x ≡ r) ⊎ OutOfReach at r.operands)
+
+near_any : (at t : ℕ) (rest : List ℕ) → near_at at (near_bytes at t ++ rest) ≡ Ok (near_from at (distance at t % 2 ^ 16), rest)
+unfolding near_at
+near_any at t rest = rw (number_again w16 (2 ^ 16) half (distance at t % 2 ^ 16) rest (omega arith)) refl
+
+shaped_any : (o : Option Shape) (at c t : ℕ) (rest : List ℕ) → HasShape o (Near t) → shaped_at at c o (near_bytes at t ++ rest) ≡ Ok (row c (Near (near_from at (distance at t % 2 ^ 16))), rest)
+unfolding shaped_at operands_at
+shaped_any (Some IsNear) at c t rest fits = rw (near_any at t rest) refl
+shaped_any _ at c t rest fits = absurd fits
+
+as_itself : (at c : ℕ) (o : Operands) (rest : List ℕ) → at < 2 ^ 32 → Allowed (row c o) → NearReaches at o → IsRead at (row c o) rest
+as_itself at c o rest lt fits reach = (row c o, near_again_so at (row c o) rest lt fits reach, inl refl)
+
+near_is_read : (at c t : ℕ) (rest : List ℕ) → at < 2 ^ 32 → Allowed (row c (Near t)) → (t + 2 ^ 15 < at) ⊎ (at ≤ t + 2 ^ 15) → (t < at + 2 ^ 15) ⊎ (at + 2 ^ 15 ≤ t) → IsRead at (row c (Near t)) rest
 unfolding row_at
-row_again at r rest lt fits reach = shaped_again (shape_of r.opcode) at r.opcode r.operands rest lt fits.1 reach
+near_is_read at c t rest lt fits (inr low) (inl high) = as_itself at c (Near t) rest lt fits (low, high)
+near_is_read at c t rest lt fits (inl low) high =
+    (row c (Near (near_from at (distance at t % 2 ^ 16))), shaped_any (shape_of c) at c t rest fits.1, inr (λ within. omega (arith, within.0, low)))
+near_is_read at c t rest lt fits (inr low) (inr high) =
+    (row c (Near (near_from at (distance at t % 2 ^ 16))), shaped_any (shape_of c) at c t rest fits.1, inr (λ within. omega (arith, within.1, high)))
+
+row_is_read : (at c : ℕ) (o : Operands) (rest : List ℕ) → at < 2 ^ 32 → Allowed (row c o) → IsRead at (row c o) rest
+row_is_read at c (Near t) rest lt fits = near_is_read at c t rest lt fits (cases_lt (t + 2 ^ 15) at) (cases_lt t (at + 2 ^ 15))
+row_is_read at c Nothing rest lt fits = as_itself at c Nothing rest lt fits tt
+row_is_read at c (Byte n) rest lt fits = as_itself at c (Byte n) rest lt fits tt
+row_is_read at c (Half n) rest lt fits = as_itself at c (Half n) rest lt fits tt
+row_is_read at c (LocalAmount n k) rest lt fits = as_itself at c (LocalAmount n k) rest lt fits tt
+row_is_read at c (Far t) rest lt fits = as_itself at c (Far t) rest lt fits tt
+row_is_read at c (Called p n) rest lt fits = as_itself at c (Called p n) rest lt fits tt
+row_is_read at c Ints rest lt fits = as_itself at c Ints rest lt fits tt
+row_is_read at c (Table default low targets) rest lt fits = as_itself at c (Table default low targets) rest lt fits tt
+row_is_read at c (Lookup default pairs) rest lt fits = as_itself at c (Lookup default pairs) rest lt fits tt
+row_is_read at c (Wide k n) rest lt fits = as_itself at c (Wide k n) rest lt fits tt
+row_is_read at c (WideAmount n k) rest lt fits = as_itself at c (WideAmount n k) rest lt fits tt
+
+pub is_read : (at : ℕ) (r : Row) (rest : List ℕ) → at < 2 ^ 32 → Allowed r → IsRead at r rest
+is_read at r rest lt fits = row_is_read at r.opcode r.operands rest lt fits
 
 pub shorter : {X : Type 0} (f : X → Row × List ℕ) (r : Result X Fault) (at : ℕ) (bytes : List ℕ) → at < 2 ^ 32 → IsBytes bytes → Gives f r (row_at at bytes) → IfOk r (λ x. length (f x).1 < length bytes)
 shorter f (Ok x) at bytes lt fits given =

@@ -27,7 +27,8 @@ byte_at [] = Err Cut
 byte_at (b ∷ rest) = Ok (b, rest)
 
 abbrev pub number_at : Width → List ℕ → Result (ℕ × List ℕ) Fault
-number_at w bytes = if nat_lt (length bytes) (byte_len w) then Err Cut else Ok (from_be_bytes w (take (byte_len w) bytes), drop (byte_len w) bytes)
+number_at w bytes = if nat_lt (length bytes) (byte_len w) then Err Cut
+    else Ok (from_be_bytes w (take (byte_len w) bytes), drop (byte_len w) bytes)
 
 -- a byte that has to be this one
 abbrev pub only_at : ℕ → List ℕ → Result (List ℕ) Fault
@@ -75,7 +76,8 @@ table_at at bytes = do
   default ← far_at at rest
   low ← number_at w32 default.1
   high ← number_at w32 low.1
-  targets ← if int_lt (cast_signed w32 high.0) (cast_signed w32 low.0) then Err BadOpcode else fars_at at ((high.0 + (2 ^ 32 - low.0)) % 2 ^ 32 + 1) high.1
+  targets ← if int_lt (cast_signed w32 high.0) (cast_signed w32 low.0) then Err BadOpcode
+      else fars_at at ((high.0 + (2 ^ 32 - low.0)) % 2 ^ 32 + 1) high.1
   Ok (Table default.0 low.0 targets.0, targets.1)
 
 -- a number that has to be at least the first, counted from the least, and its target

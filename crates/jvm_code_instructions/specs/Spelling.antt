@@ -36,7 +36,8 @@ operand_bytes at (Far t) = far_bytes at t
 operand_bytes at (Called p n) = to_be_bytes w16 p ++ n ∷ 0 ∷ []
 operand_bytes at Ints = 10 ∷ []
 operand_bytes at (Table default low targets) =
-    padding at ++ (far_bytes at default ++ (to_be_bytes w32 low ++ (to_be_bytes w32 (high_of low (length targets)) ++ flat_map (far_bytes at) targets)))
+    padding at ++ (far_bytes at default ++
+    (to_be_bytes w32 low ++ (to_be_bytes w32 (high_of low (length targets)) ++ flat_map (far_bytes at) targets)))
 operand_bytes at (Lookup default pairs) =
     padding at ++ (far_bytes at default ++ (to_be_bytes w32 (length pairs % 2 ^ 32) ++ flat_map (pair_bytes at) pairs))
 operand_bytes at (Wide c n) = c ∷ to_be_bytes w16 n
@@ -66,7 +67,8 @@ Has IsFar (Far t) = t < 2 ^ 32
 Has IsCalled (Called p n) = (p < 2 ^ 16) × (n < 256) × (0 < n)
 Has IsInts Ints = Unit {0}
 Has IsTable (Table default low targets) =
-    (default < 2 ^ 32) × (low < 2 ^ 32) × (0 < length targets) × (from_least low + length targets ≤ 2 ^ 32) × AllByRecursion (λ t. t < 2 ^ 32) targets
+    (default < 2 ^ 32) × (low < 2 ^ 32) × (0 < length targets) × (from_least low + length targets ≤ 2 ^ 32)
+    × AllByRecursion (λ t. t < 2 ^ 32) targets
 Has IsLookup (Lookup default pairs) = (default < 2 ^ 32) × (length pairs < 2 ^ 31) × Ascends 0 pairs
 Has IsWide (Wide c n) = (wide_shape c ≡ Some IsLocal) × (n < 2 ^ 16)
 Has IsWide (WideAmount n k) = (n < 2 ^ 16) × (k < 2 ^ 16)

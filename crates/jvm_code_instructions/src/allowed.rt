@@ -132,8 +132,8 @@ fn lookup_is_allowed(lookup: &LookupSwitch) -> bool
 }
 
 /// Whether the row of the instruction allows its operands. The types see to most of that: what is left is that a
-/// *tableswitch* has a target and no more of them than numbers from `low` on, that the numbers of a *lookupswitch* ascend
-/// strictly and are fewer than 2^31, and that the count of *invokeinterface* isn't zero (JVMS SE 8 §6.5).
+/// *tableswitch* has a target and no more of them than numbers from `low` on, that the numbers of a *lookupswitch*
+/// ascend strictly and are fewer than 2^31, and that the count of *invokeinterface* isn't zero (JVMS SE 8 §6.5).
 pub fn is_allowed(instr: &Instr) -> bool
     ensures { IsTrue result ↔ Allowed (row_of instr.now) }
 {

@@ -15,12 +15,14 @@ use crate::instr::Instr;
 
 /// An instruction that its row allows is read from its bytes, whatever follows them.
 pub fn written_is_read(at: u32)
-    ensures { (r : Row) (rest : List ℕ) → Allowed r → Reaches at r.operands → row_at at (row_bytes at r ++ rest) ≡ Ok (r, rest) }
+    ensures { (r : Row) (rest : List ℕ) → Allowed r → Reaches at r.operands
+        → row_at at (row_bytes at r ++ rest) ≡ Ok (r, rest) }
 {}
 
 /// What is read is an instruction that its row allows, and the bytes begin with its own.
 pub fn read_is_written(at: u32, bytes: &[u8])
-    ensures { (r : Row) (rest : List ℕ) → row_at at bytes.now ≡ Ok (r, rest) → Allowed r × (bytes.now ≡ row_bytes at r ++ rest) }
+    ensures { (r : Row) (rest : List ℕ) → row_at at bytes.now ≡ Ok (r, rest)
+        → Allowed r × (bytes.now ≡ row_bytes at r ++ rest) }
 {}
 
 /// Where no instruction begins, none does with more bytes behind.

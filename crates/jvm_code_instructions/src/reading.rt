@@ -236,12 +236,13 @@ fn instr_in(alloc: Global, at: u32, bytes: &[u8]) -> Result<(Instr, &[u8]), Faul
     }
 }
 
-/// The instruction at the front of bytes, which stands at an offset in the code, and the bytes behind it (JVMS SE 8 §6.5).
+/// The instruction at the front of bytes, which stands at an offset in the code, and the bytes behind it (JVMS SE 8
+/// §6.5).
 ///
-/// From left to right, the first fault that is met: `BadOpcode` at an opcode that the table doesn't have and at an operand
-/// that its row doesn't allow (padding or a last byte that isn't zero, a count of zero at *invokeinterface*, another array
-/// type than `int`, a `low` above its `high`, numbers of a *lookupswitch* that don't ascend strictly, a negative count, a
-/// wide form of another instruction); `Cut` where the bytes end before.
+/// From left to right, the first fault that is met: `BadOpcode` at an opcode that the table doesn't have and at an
+/// operand that its row doesn't allow (padding or a last byte that isn't zero, a count of zero at *invokeinterface*,
+/// another array type than `int`, a `low` above its `high`, numbers of a *lookupswitch* that don't ascend strictly, a
+/// negative count, a wide form of another instruction); `Cut` where the bytes end before.
 pub fn instr_of(alloc: Global, at: u32, bytes: &[u8]) -> Result<(Instr, &[u8]), Fault>
     // Fewer bytes stand behind it than there were.
     ensures shorter { IfOk result (λ x. length x.1.now < length bytes.now) }

@@ -131,7 +131,8 @@ fn put_wide(out: &mut Vec<u8>, opcode: u8, local: u16) -> Result<(), AllocError>
 }
 
 fn put_wide_amount(out: &mut Vec<u8>, local: u16, amount: u16) -> Result<(), AllocError>
-    ensures { OnOk result (out.new.items ≡ out.old.items ++ (0x84 ∷ (to_be_bytes w16 local ++ to_be_bytes w16 amount))) }
+    ensures { OnOk result (out.new.items ≡ out.old.items
+        ++ (0x84 ∷ (to_be_bytes w16 local ++ to_be_bytes w16 amount))) }
 {
     out.push(0x84)?;
     put_u16(out, local)?;
@@ -237,8 +238,9 @@ fn put_operands(out: &mut Vec<u8>, at: u32, instr: &Instr) -> Result<(), AllocEr
     }
 }
 
-/// Appends the bytes of an instruction that stands at an offset in the code (JVMS SE 8 §6.5): numbers big-endian, targets
-/// by their distances, a switch padded by its offset. Where memory runs out, a front of them may have been appended.
+/// Appends the bytes of an instruction that stands at an offset in the code (JVMS SE 8 §6.5): numbers big-endian,
+/// targets by their distances, a switch padded by its offset. Where memory runs out, a front of them may have been
+/// appended.
 pub fn put_instr(out: &mut Vec<u8>, at: u32, instr: &Instr) -> Result<(), NoMemory>
     ensures { OnOk result (out.new.items ≡ out.old.items ++ row_bytes at (row_of instr.now)) }
 {

@@ -55,7 +55,10 @@ int_constant_code int_constant.Iconst4 = 0x07
 int_constant_code int_constant.Iconst5 = 0x08
 
 unfoldable pub int_constant_of : ℕ → Option IntConstant
-int_constant_of c = find (λ op. c == int_constant_code op) (int_constant.IconstM1 ∷ int_constant.Iconst0 ∷ int_constant.Iconst1 ∷ int_constant.Iconst2 ∷ int_constant.Iconst3 ∷ int_constant.Iconst4 ∷ int_constant.Iconst5 ∷ [])
+int_constant_of c =
+    find (λ op. c == int_constant_code op)
+    (int_constant.IconstM1 ∷ int_constant.Iconst0 ∷ int_constant.Iconst1 ∷ int_constant.Iconst2 ∷ int_constant.Iconst3
+    ∷ int_constant.Iconst4 ∷ int_constant.Iconst5 ∷ [])
 
 abbrev pub long_constant_code : LongConstant → ℕ
 long_constant_code long_constant.Lconst0 = 0x09
@@ -87,7 +90,11 @@ fixed_load_code fixed_load.Aload2 = 0x2c
 fixed_load_code fixed_load.Aload3 = 0x2d
 
 unfoldable pub fixed_load_of : ℕ → Option FixedLoad
-fixed_load_of c = find (λ op. c == fixed_load_code op) (fixed_load.Iload0 ∷ fixed_load.Iload1 ∷ fixed_load.Iload2 ∷ fixed_load.Iload3 ∷ fixed_load.Lload0 ∷ fixed_load.Lload1 ∷ fixed_load.Lload2 ∷ fixed_load.Lload3 ∷ fixed_load.Aload0 ∷ fixed_load.Aload1 ∷ fixed_load.Aload2 ∷ fixed_load.Aload3 ∷ [])
+fixed_load_of c =
+    find (λ op. c == fixed_load_code op)
+    (fixed_load.Iload0 ∷ fixed_load.Iload1 ∷ fixed_load.Iload2 ∷ fixed_load.Iload3 ∷ fixed_load.Lload0
+    ∷ fixed_load.Lload1 ∷ fixed_load.Lload2 ∷ fixed_load.Lload3 ∷ fixed_load.Aload0 ∷ fixed_load.Aload1
+    ∷ fixed_load.Aload2 ∷ fixed_load.Aload3 ∷ [])
 
 abbrev pub array_load_code : ArrayLoad → ℕ
 array_load_code array_load.Iaload = 0x2e
@@ -119,7 +126,11 @@ fixed_store_code fixed_store.Astore2 = 0x4d
 fixed_store_code fixed_store.Astore3 = 0x4e
 
 unfoldable pub fixed_store_of : ℕ → Option FixedStore
-fixed_store_of c = find (λ op. c == fixed_store_code op) (fixed_store.Istore0 ∷ fixed_store.Istore1 ∷ fixed_store.Istore2 ∷ fixed_store.Istore3 ∷ fixed_store.Lstore0 ∷ fixed_store.Lstore1 ∷ fixed_store.Lstore2 ∷ fixed_store.Lstore3 ∷ fixed_store.Astore0 ∷ fixed_store.Astore1 ∷ fixed_store.Astore2 ∷ fixed_store.Astore3 ∷ [])
+fixed_store_of c =
+    find (λ op. c == fixed_store_code op)
+    (fixed_store.Istore0 ∷ fixed_store.Istore1 ∷ fixed_store.Istore2 ∷ fixed_store.Istore3 ∷ fixed_store.Lstore0
+    ∷ fixed_store.Lstore1 ∷ fixed_store.Lstore2 ∷ fixed_store.Lstore3 ∷ fixed_store.Astore0 ∷ fixed_store.Astore1
+    ∷ fixed_store.Astore2 ∷ fixed_store.Astore3 ∷ [])
 
 abbrev pub array_store_code : ArrayStore → ℕ
 array_store_code array_store.Iastore = 0x4f
@@ -140,7 +151,9 @@ stack_op_code stack_op.Dup2X2 = 0x5e
 stack_op_code stack_op.Swap = 0x5f
 
 unfoldable pub stack_op_of : ℕ → Option StackOp
-stack_op_of c = find (λ op. c == stack_op_code op) (stack_op.Pop ∷ stack_op.Pop2 ∷ stack_op.Dup ∷ stack_op.DupX1 ∷ stack_op.DupX2 ∷ stack_op.Dup2 ∷ stack_op.Dup2X1 ∷ stack_op.Dup2X2 ∷ stack_op.Swap ∷ [])
+stack_op_of c =
+    find (λ op. c == stack_op_code op) (stack_op.Pop ∷ stack_op.Pop2 ∷ stack_op.Dup ∷ stack_op.DupX1 ∷ stack_op.DupX2
+    ∷ stack_op.Dup2 ∷ stack_op.Dup2X1 ∷ stack_op.Dup2X2 ∷ stack_op.Swap ∷ [])
 
 abbrev pub arithmetic_code : Arithmetic → ℕ
 arithmetic_code arithmetic.Iadd = 0x60
@@ -151,7 +164,9 @@ arithmetic_code arithmetic.Imul = 0x68
 arithmetic_code arithmetic.Lmul = 0x69
 
 unfoldable pub arithmetic_of : ℕ → Option Arithmetic
-arithmetic_of c = find (λ op. c == arithmetic_code op) (arithmetic.Iadd ∷ arithmetic.Ladd ∷ arithmetic.Isub ∷ arithmetic.Lsub ∷ arithmetic.Imul ∷ arithmetic.Lmul ∷ [])
+arithmetic_of c =
+    find (λ op. c == arithmetic_code op)
+    (arithmetic.Iadd ∷ arithmetic.Ladd ∷ arithmetic.Isub ∷ arithmetic.Lsub ∷ arithmetic.Imul ∷ arithmetic.Lmul ∷ [])
 
 abbrev pub division_code : Division → ℕ
 division_code division.Idiv = 0x6c
@@ -178,7 +193,9 @@ shift_code shift.Iushr = 0x7c
 shift_code shift.Lushr = 0x7d
 
 unfoldable pub shift_of : ℕ → Option Shift
-shift_of c = find (λ op. c == shift_code op) (shift.Ishl ∷ shift.Lshl ∷ shift.Ishr ∷ shift.Lshr ∷ shift.Iushr ∷ shift.Lushr ∷ [])
+shift_of c =
+    find (λ op. c == shift_code op) (shift.Ishl ∷ shift.Lshl ∷ shift.Ishr ∷ shift.Lshr ∷ shift.Iushr
+    ∷ shift.Lushr ∷ [])
 
 abbrev pub bitwise_code : Bitwise → ℕ
 bitwise_code bitwise.Iand = 0x7e
@@ -189,7 +206,9 @@ bitwise_code bitwise.Ixor = 0x82
 bitwise_code bitwise.Lxor = 0x83
 
 unfoldable pub bitwise_of : ℕ → Option Bitwise
-bitwise_of c = find (λ op. c == bitwise_code op) (bitwise.Iand ∷ bitwise.Land ∷ bitwise.Ior ∷ bitwise.Lor ∷ bitwise.Ixor ∷ bitwise.Lxor ∷ [])
+bitwise_of c =
+    find (λ op. c == bitwise_code op) (bitwise.Iand ∷ bitwise.Land ∷ bitwise.Ior ∷ bitwise.Lor ∷ bitwise.Ixor
+    ∷ bitwise.Lxor ∷ [])
 
 abbrev pub conversion_code : Conversion → ℕ
 conversion_code conversion.I2l = 0x85
@@ -208,7 +227,9 @@ zero_test_code zero_test.Ifgt = 0x9d
 zero_test_code zero_test.Ifle = 0x9e
 
 unfoldable pub zero_test_of : ℕ → Option ZeroTest
-zero_test_of c = find (λ op. c == zero_test_code op) (zero_test.Ifeq ∷ zero_test.Ifne ∷ zero_test.Iflt ∷ zero_test.Ifge ∷ zero_test.Ifgt ∷ zero_test.Ifle ∷ [])
+zero_test_of c =
+    find (λ op. c == zero_test_code op)
+    (zero_test.Ifeq ∷ zero_test.Ifne ∷ zero_test.Iflt ∷ zero_test.Ifge ∷ zero_test.Ifgt ∷ zero_test.Ifle ∷ [])
 
 abbrev pub int_test_code : IntTest → ℕ
 int_test_code int_test.IfIcmpeq = 0x9f
@@ -219,7 +240,9 @@ int_test_code int_test.IfIcmpgt = 0xa3
 int_test_code int_test.IfIcmple = 0xa4
 
 unfoldable pub int_test_of : ℕ → Option IntTest
-int_test_of c = find (λ op. c == int_test_code op) (int_test.IfIcmpeq ∷ int_test.IfIcmpne ∷ int_test.IfIcmplt ∷ int_test.IfIcmpge ∷ int_test.IfIcmpgt ∷ int_test.IfIcmple ∷ [])
+int_test_of c =
+    find (λ op. c == int_test_code op) (int_test.IfIcmpeq ∷ int_test.IfIcmpne ∷ int_test.IfIcmplt ∷ int_test.IfIcmpge
+    ∷ int_test.IfIcmpgt ∷ int_test.IfIcmple ∷ [])
 
 abbrev pub reference_test_code : ReferenceTest → ℕ
 reference_test_code reference_test.IfAcmpeq = 0xa5
@@ -235,7 +258,9 @@ return_op_code return_op.Areturn = 0xb0
 return_op_code return_op.Return = 0xb1
 
 unfoldable pub return_op_of : ℕ → Option ReturnOp
-return_op_of c = find (λ op. c == return_op_code op) (return_op.Ireturn ∷ return_op.Lreturn ∷ return_op.Areturn ∷ return_op.Return ∷ [])
+return_op_of c =
+    find (λ op. c == return_op_code op)
+    (return_op.Ireturn ∷ return_op.Lreturn ∷ return_op.Areturn ∷ return_op.Return ∷ [])
 
 abbrev pub field_op_code : FieldOp → ℕ
 field_op_code field_op.Getfield = 0xb4
@@ -250,7 +275,9 @@ invoke_op_code invoke_op.Invokespecial = 0xb7
 invoke_op_code invoke_op.Invokestatic = 0xb8
 
 unfoldable pub invoke_op_of : ℕ → Option InvokeOp
-invoke_op_of c = find (λ op. c == invoke_op_code op) (invoke_op.Invokevirtual ∷ invoke_op.Invokespecial ∷ invoke_op.Invokestatic ∷ [])
+invoke_op_of c =
+    find (λ op. c == invoke_op_code op)
+    (invoke_op.Invokevirtual ∷ invoke_op.Invokespecial ∷ invoke_op.Invokestatic ∷ [])
 
 abbrev pub null_test_code : NullTest → ℕ
 null_test_code null_test.Ifnull = 0xc6

@@ -9,6 +9,3 @@ pub use opcodes::{
     FixedStore, IntConstant, IntTest, InvokeOp, LoadOp, LongConstant, Negation, NullTest,
     ReferenceTest, ReturnOp, Shift, StackOp, StoreOp, ZeroTest,
 };
-
-#[cfg(test)]
-mod tests;

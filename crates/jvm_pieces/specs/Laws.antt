@@ -9,7 +9,8 @@ WrittenSpells = (ps : List Piece) (d : Draft) → d ≡ with_pieces ps (draft []
 
 -- pieces have one spelling
 abbrev pub OneSpelling : Type 0
-OneSpelling = (ps : List Piece) (es other : List Entry) (body bytes : List ℕ) → Spells es body ps → Spells other bytes ps → (es ≡ other) × (body ≡ bytes)
+OneSpelling = (ps : List Piece) (es other : List Entry) (body bytes : List ℕ) → Spells es body ps
+    → Spells other bytes ps → (es ≡ other) × (body ≡ bytes)
 
 -- a writer that takes pieces in two parts takes all of them
 abbrev pub WritesInParts : Type 0

@@ -8,6 +8,3 @@ pub mod laws;
 pub mod writing;
 
 pub use writing::{put_bytes, put_mention};
-
-#[cfg(test)]
-mod tests;

@@ -21,7 +21,8 @@ pub fn put_bytes(bytes: &[u8], into: &mut Vec<u8>) -> Result<(), NoMemory>
 ///
 /// `Full` comes exactly where the pool's count would pass 65,535. An error leaves the pool and `into` as they were.
 pub fn put_mention(e: &Entry, pool: &mut Pool, into: &mut Vec<u8>) -> Result<(), PoolErr>
-    ensures ok { OnOk result (draft pool.new into.new.items ≡ with_piece (Mention e.now) (draft pool.old into.old.items)) }
+    ensures ok { OnOk result
+        (draft pool.new into.new.items ≡ with_piece (Mention e.now) (draft pool.old into.old.items)) }
     ensures room { OnOk result (1 + units (with_mention e.now pool.old) ≤ 65535) }
     ensures full { result ≡ Err PoolErr.Full → 65535 < 1 + units (with_mention e.now pool.old) }
     ensures err { OnErr result ((pool.new ≡ pool.old) × (into.new.items ≡ into.old.items)) }

@@ -1,18 +1,18 @@
 -- A pool that grows entry by entry.
-use Rattle.std.proofs.Common.{◌≡◌, ℕ, suc, ◌+◌, ◌<◌, Bool, true, false, not, List, [], ◌∷◌, ◌++◌, length, take, Option, Some, None, Result, Ok, Err, is_some, refl, sym, ap, ◌∙◌, append_assoc, arith, true≢false}
+use Rattle.std.proofs.Common.{◌≡◌, ℕ, suc, ◌+◌, ◌<◌, ◌≤◌, Bool, true, false, not, ◌||◌, List, [], ◌∷◌, ◌++◌, length, take, drop, slice_get, zero, subst, Option, Some, None, Result, Ok, Err, is_some, refl, sym, ap, ◌∙◌, append_assoc, arith, true≢false}
 use Rattle.std.specs.Map.{keys_of, values_of}
-use Rattle.std.proofs.lemmas.List.{append-nil, map_push, take-map, take_at}
+use Rattle.std.proofs.lemmas.List.{append-nil, map_push, take-map, take_at, take-append-drop, length-take-le}
 use Rattle.indexmap.specs.IndexMap.{IndexMap, insert_entry}
 use Rattle.indexmap.proofs.CallerLemmas.{insert_entry-new}
 use Rattle.jvm_pool.specs.declared.entries.Entry.{Entry}
 use Rattle.jvm_pool.specs.declared.errors.PoolErr.{PoolErr}
 use Rattle.jvm_pool.specs.declared.errors.PoolErr.TheVariants.{Full, NoMemory}
 use Rattle.jvm_pool.specs.contracts.entries.EntryPartialEq.TheImpl as derived
-use Rattle.jvm_pool.specs.Entries.{size, behind, units}
+use Rattle.jvm_pool.specs.Entries.{size, behind, same, units}
 use Rattle.jvm_pool.specs.Mentions.{has, seek, with_one, with_each, with_mention}
-use Rattle.jvm_pool.specs.Numbering.{starts, IsNumbered, Grows, GrowsErr}
+use Rattle.jvm_pool.specs.Numbering.{starts, AreDifferent, IsNumbered, Grows, GrowsErr}
 use Rattle.jvm_pool.proofs.Order.{each_keeps, seek_past}
-use Rattle.jvm_pool.proofs.Same.{same_self, units-append}
+use Rattle.jvm_pool.proofs.Same.{same_is, same_self, units-append}
 use Rattle.jvm_pool.proofs.Seeking.{seek_is, has_seek}
 
 -- ---- one entry
@@ -129,3 +129,64 @@ cut_back entries count many old more n front len is counted fits =
     let split : values_of entries ≡ starts 1 old ++ starts (1 + units old) more = is.numbered ∙ ap (starts 1) front ∙ starts-append 1 old more in
     let values-is : values_of (take n entries) ≡ starts 1 old = sym (take-map (λ (p : Entry × ℕ). p.1) n entries) ∙ ap (take n) split ∙ take_at (starts 1 old) (starts (1 + units old) more) n (length-starts 1 old ∙ sym len) in
     record { numbered = values-is ∙ ap (starts 1) (sym keys-is); counted = counted ∙ ap (λ (l : List Entry). 1 + units l) (sym keys-is); fits = omega arith }
+
+-- ---- the first entries of a pool
+
+-- where an entry starts
+start_at : (k : ℕ) (es : List Entry) (n start : ℕ) → slice_get (starts k es) n ≡ Some start → (n < length es) × (start ≡ k + units (take n es))
+start_at k [] n start at = absurd cc
+start_at k (e ∷ es) zero start at = let first : k ≡ start = cc in (omega arith, omega arith)
+start_at k (e ∷ es) (suc n) start at = let p = start_at (k + size e) es n start at in (omega (arith, p.0), omega (arith, p.1))
+
+none_behind : (k : ℕ) (es : List Entry) (n : ℕ) → slice_get (starts k es) n ≡ None → es ≡ take n es
+none_behind k [] zero at = refl
+none_behind k [] (suc n) at = refl
+none_behind k (e ∷ es) zero at = absurd cc
+none_behind k (e ∷ es) (suc n) at = ap (λ l. e ∷ l) (none_behind (k + size e) es n at)
+
+-- where no entry is at a position, all are before it
+pub all_before : (entries : List (Entry × ℕ)) (many n : ℕ) → IsNumbered entries many → slice_get (values_of entries) n ≡ None → keys_of entries ≡ take n (keys_of entries)
+all_before entries many n is at = none_behind 1 (keys_of entries) n (ap (λ l. slice_get l n) (sym is.numbered) ∙ at)
+
+-- the first entries of a numbered pool, where there are more
+pub cut_numbered : (entries : List (Entry × ℕ)) (many start n : ℕ) → IsNumbered entries many → slice_get (values_of entries) n ≡ Some start
+    → IsNumbered (take n entries) start
+cut_numbered entries many start n is at =
+    let whole : keys_of entries ≡ take n (keys_of entries) ++ drop n (keys_of entries) = sym (take-append-drop n (keys_of entries)) in
+    let p = start_at 1 (keys_of entries) n start (ap (λ l. slice_get l n) (sym is.numbered) ∙ at) in
+    let len : n ≡ length (take n (keys_of entries)) = sym (length-take-le n (keys_of entries) (omega (arith, p.0))) in
+    let all : units (keys_of entries) ≡ units (take n (keys_of entries)) + units (drop n (keys_of entries)) =
+    ap units whole ∙ units-append (take n (keys_of entries)) (drop n (keys_of entries)) in
+    cut_back entries start many (take n (keys_of entries)) (drop n (keys_of entries)) n whole len is p.1 (omega (arith, is.counted, is.fits, p.1))
+
+-- ---- entries that differ
+
+has_middle : (front rest : List Entry) (e : Entry) → has (front ++ e ∷ rest) e ≡ true
+has_middle [] rest e = ap (λ (b : Bool). b || has rest e) (same_self e)
+has_middle (x ∷ front) rest e = ap (λ (b : Bool). same e x || b) (has_middle front rest e) ∙ or_true (same e x)
+  where
+    or_true : (b : Bool) → (b || true) ≡ true
+    or_true true = refl
+    or_true false = refl
+
+-- an entry isn't among those before it
+pub not_before : (front rest : List Entry) (e : Entry) → AreDifferent (front ++ e ∷ rest) → has front e ≡ false
+not_before [] rest e h = refl
+not_before (x ∷ front) rest e h = by (same e x) refl (not_before front rest e h.1)
+  where
+    by : (b : Bool) → same e x ≡ b → has front e ≡ false → (same e x || has front e) ≡ false
+    by true is later =
+        absurd (true≢false (sym (has_middle front rest e) ∙ ap (λ y. has (front ++ e ∷ rest) y) (same_is e x is) ∙ h.0))
+    by false is later = ap (λ (b : Bool). b || has front e) is ∙ later
+
+-- the next of a file's entries is absent, and there is room for it
+pub next_absent : (pool left rest all : List Entry) (e : Entry) → pool ++ left ≡ all → left ≡ e ∷ rest → AreDifferent all → has pool e ≡ false
+next_absent pool left rest all e whole next differ = not_before pool rest e (subst AreDifferent (sym whole ∙ ap (λ l. pool ++ l) next) differ)
+
+pub next_fits : (pool left rest all : List Entry) (e : Entry) → pool ++ left ≡ all → left ≡ e ∷ rest → 1 + units all ≤ 65535 → 1 + units (pool ++ e ∷ []) ≤ 65535
+next_fits pool left rest all e whole next fits =
+    omega (arith, ap units whole, ap units next, units-append pool left, units-append pool (e ∷ []))
+
+pub next_pushed : (pool next left rest all : List Entry) (e : Entry) → pool ++ left ≡ all → left ≡ e ∷ rest → next ≡ pool ++ e ∷ [] → next ++ rest ≡ all
+next_pushed pool next left rest all e whole is pushed =
+    ap (λ l. l ++ rest) pushed ∙ append_assoc pool (e ∷ []) rest ∙ ap (λ l. pool ++ l) (sym is) ∙ whole

@@ -11,3 +11,4 @@ pub mod Spelled
 pub mod Texts
 pub mod Types
 pub mod Units
+mod Judged

@@ -17,7 +17,8 @@ behind_prefix (p ∷ prefix) (b ∷ bytes) = if b == p then behind_prefix prefix
 -- the class name that ends at a `;`
 abbrev pub class_before : List ℕ → Option ℕ → Option (List ℕ × List ℕ)
 class_before bytes None = None
-class_before bytes (Some end) = if is_class_name (take end bytes) then Some (take end bytes, drop (end + 1) bytes) else None
+class_before bytes (Some end) = if is_class_name (take end bytes)
+    then Some (take end bytes, drop (end + 1) bytes) else None
 
 -- the class name before the first `;`
 abbrev pub first_class : List ℕ → Option (List ℕ × List ℕ)
@@ -49,7 +50,8 @@ with_rest rest None = None
 with_rest rest (Some t) = Some (t, rest)
 
 abbrev pub type_behind : ℕ → List ℕ → Option (FieldType × List ℕ)
-type_behind b rest = if b == 76 then class_type (first_class rest) else if b == 91 then first_array rest else with_rest rest (base_type b)
+type_behind b rest = if b == 76 then class_type (first_class rest) else if b == 91 then first_array rest
+    else with_rest rest (base_type b)
 
 abbrev pub first_type : List ℕ → Option (FieldType × List ℕ)
 first_type [] = None

@@ -12,7 +12,8 @@ is_name_byte b = not (b == 46 || b == 59 || b == 91)
 
 -- the internal form of a class name (JVMS SE 8 §4.2.1): identifiers with `/` between them, each of at least one byte
 abbrev pub is_class_name : List ℕ → Bool
-is_class_name name = list_all is_name_byte name && list_all (λ part. nat_lt 0 (length part)) (slice_split (λ b. b == 47) name)
+is_class_name name = list_all is_name_byte name
+    && list_all (λ part. nat_lt 0 (length part)) (slice_split (λ b. b == 47) name)
 
 -- the spelling of a field's type
 abbrev pub spelled_type : FieldType → List ℕ
@@ -32,7 +33,8 @@ spelled_result (Some t) = spelled_type t
 -- the spelling of a descriptor
 abbrev pub spelled : Descriptor → List ℕ
 spelled (descriptor.Field t) = spelled_type t
-spelled (descriptor.Method parameters result) = codes "(" ++ flat_map spelled_type parameters.items ++ codes ")" ++ spelled_result result
+spelled (descriptor.Method parameters result) = codes "(" ++ flat_map spelled_type parameters.items ++ codes ")"
+    ++ spelled_result result
 
 -- a type whose class name is one
 abbrev pub IsFieldType : FieldType → Type 0
@@ -53,3 +55,12 @@ abbrev pub IsSameDescriptor : Descriptor → Descriptor → Type 0
 IsSameDescriptor (descriptor.Field t) (descriptor.Field u) = t ≡ u
 IsSameDescriptor (descriptor.Method ts r) (descriptor.Method us s) = (ts.items ≡ us.items) × (r ≡ s)
 IsSameDescriptor _ _ = ⊥
+
+-- the text is the descriptor of a field, or of a method
+abbrev pub IsOfField : List ℕ → Type 0
+IsOfField text = (t : FieldType) × IsFieldType t × (text ≡ spelled_type t)
+
+abbrev pub IsOfMethod : List ℕ → Type 0
+IsOfMethod text =
+    (parameters : List FieldType) × (result : Option FieldType) × All IsFieldType parameters × IsResult result
+    × (text ≡ codes "(" ++ flat_map spelled_type parameters ++ codes ")" ++ spelled_result result)

@@ -17,9 +17,12 @@ behind (Int n) = []
 behind (Long n) = []
 behind (Class name) = Utf8 name ∷ []
 behind (Text text) = Utf8 text ∷ []
-behind (Field class name descriptor) = Class class ∷ Utf8 class ∷ NameAndType name descriptor ∷ Utf8 name ∷ Utf8 descriptor ∷ []
-behind (Method class name descriptor) = Class class ∷ Utf8 class ∷ NameAndType name descriptor ∷ Utf8 name ∷ Utf8 descriptor ∷ []
-behind (InterfaceMethod class name descriptor) = Class class ∷ Utf8 class ∷ NameAndType name descriptor ∷ Utf8 name ∷ Utf8 descriptor ∷ []
+behind (Field class name descriptor) = Class class ∷ Utf8 class ∷ NameAndType name descriptor ∷ Utf8 name
+    ∷ Utf8 descriptor ∷ []
+behind (Method class name descriptor) = Class class ∷ Utf8 class ∷ NameAndType name descriptor ∷ Utf8 name
+    ∷ Utf8 descriptor ∷ []
+behind (InterfaceMethod class name descriptor) = Class class ∷ Utf8 class ∷ NameAndType name descriptor ∷ Utf8 name
+    ∷ Utf8 descriptor ∷ []
 behind (NameAndType name descriptor) = Utf8 name ∷ Utf8 descriptor ∷ []
 
 -- whether two entries are the same

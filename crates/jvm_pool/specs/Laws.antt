@@ -26,7 +26,8 @@ KeptIndices = (es : List Entry) (m e : Entry) (i : ℕ) → seek 1 es e ≡ Some
 
 -- in a pool that grew from mentions each entry has one index, at which it starts
 abbrev pub OneIndex : Type 0
-OneIndex = (ms : List Entry) (e : Entry) (i : ℕ) → (seek 1 (with_mentions ms []) e ≡ Some i) ↔ (entry_at 1 (with_mentions ms []) i ≡ Some e)
+OneIndex = (ms : List Entry) (e : Entry) (i : ℕ)
+    → (seek 1 (with_mentions ms []) e ≡ Some i) ↔ (entry_at 1 (with_mentions ms []) i ≡ Some e)
 
 -- in a pool that grew from mentions each entry that was mentioned has an index
 abbrev pub MentionsStand : Type 0
@@ -34,4 +35,5 @@ MentionsStand = (ms : List Entry) (m : Entry) → has ms m ≡ true → (i : ℕ
 
 -- in a pool that grew from mentions each part of an entry that has an index has one too
 abbrev pub PartsStand : Type 0
-PartsStand = (ms : List Entry) (e p : Entry) (i : ℕ) → seek 1 (with_mentions ms []) e ≡ Some i → has (behind e) p ≡ true → (j : ℕ) × (seek 1 (with_mentions ms []) p ≡ Some j)
+PartsStand = (ms : List Entry) (e p : Entry) (i : ℕ) → seek 1 (with_mentions ms []) e ≡ Some i
+    → has (behind e) p ≡ true → (j : ℕ) × (seek 1 (with_mentions ms []) p ≡ Some j)

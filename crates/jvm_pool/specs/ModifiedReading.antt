@@ -9,14 +9,16 @@ continues b = nat_le 0x80 b && nat_lt b 0xc0
 abbrev pub two_byte_unit : ℕ → List ℕ → Option (ℕ × List ℕ)
 two_byte_unit a [] = None
 two_byte_unit a (b ∷ rest) =
-    if continues b then (let u : ℕ = (a - 0xc0) * 0x40 + (b - 0x80) in if u == 0 || nat_le 0x80 u then Some (u, rest) else None) else None
+    if continues b then (let u : ℕ = (a - 0xc0) * 0x40 + (b - 0x80) in if u == 0 || nat_le 0x80 u then Some (u, rest)
+    else None) else None
 
 -- a unit of three bytes, of which a is the first
 abbrev pub three_byte_unit : ℕ → List ℕ → Option (ℕ × List ℕ)
 three_byte_unit a [] = None
 three_byte_unit a (b ∷ []) = None
 three_byte_unit a (b ∷ c ∷ rest) =
-    if continues b && continues c then (let u : ℕ = (a - 0xe0) * 0x1000 + (b - 0x80) * 0x40 + (c - 0x80) in if nat_le 0x800 u then Some (u, rest) else None) else None
+    if continues b && continues c then (let u : ℕ = (a - 0xe0) * 0x1000 + (b - 0x80) * 0x40 + (c - 0x80)
+    in if nat_le 0x800 u then Some (u, rest) else None) else None
 
 abbrev pub first_unit : List ℕ → Option (ℕ × List ℕ)
 first_unit [] = None

@@ -50,8 +50,11 @@ fn method_descriptor(alloc: Global, bytes: &[u8]) -> Result<Descriptor, Descript
 /// The types before the first `)` that ends them, and the bytes behind it.
 fn parameters(alloc: Global, bytes: &[u8]) -> Result<(Vec<FieldType>, &[u8]), DescriptorErr>
     requires ascii { IsAscii bytes.now }
-    ensures found { IfOk result (λ found. All IsFieldType found.0.items × (bytes.now ≡ flat_map spelled_type found.0.items ++ codes ")" ++ found.1.now)) }
-    ensures bad { result ≡ Err DescriptorErr.Bad → (types : List FieldType) (rest : List ℕ) → All IsFieldType types → bytes.now ≡ flat_map spelled_type types ++ codes ")" ++ rest → ⊥ }
+    ensures found { IfOk result
+        (λ found. All IsFieldType found.0.items
+        × (bytes.now ≡ flat_map spelled_type found.0.items ++ codes ")" ++ found.1.now)) }
+    ensures bad { result ≡ Err DescriptorErr.Bad → (types : List FieldType) (rest : List ℕ) → All IsFieldType types
+        → bytes.now ≡ flat_map spelled_type types ++ codes ")" ++ rest → ⊥ }
     ensures ascii { IfOk result (λ found. IsAscii found.1.now) }
 {
     let mut types = Vec::new(alloc);
@@ -66,7 +69,7 @@ fn parameters(alloc: Global, bytes: &[u8]) -> Result<(Vec<FieldType>, &[u8]), De
 }
 
 /// Whether a `)` stands at the front.
-fn is_closed(bytes: &[u8]) -> bool
+pub(crate) fn is_closed(bytes: &[u8]) -> bool
     ensures value { result ≡ begins_with 41 bytes.now }
     ensures some { IsTrue result → 0 < length bytes.now }
 {
@@ -80,7 +83,8 @@ fn is_closed(bytes: &[u8]) -> bool
 fn result_type(alloc: Global, bytes: &[u8]) -> Result<Option<FieldType>, DescriptorErr>
     requires ascii { IsAscii bytes.now }
     ensures found { IfOk result (λ found. IsResult found × (bytes.now ≡ spelled_result found)) }
-    ensures bad { result ≡ Err DescriptorErr.Bad → (r : Option FieldType) → IsResult r → bytes.now ≡ spelled_result r → ⊥ }
+    ensures bad { result ≡ Err DescriptorErr.Bad → (r : Option FieldType) → IsResult r
+        → bytes.now ≡ spelled_result r → ⊥ }
 {
     match bytes {
         [b'V'] => Ok(None),
@@ -128,7 +132,7 @@ fn type_behind(alloc: Global, first: u8, rest: &[u8]) -> Result<(FieldType, &[u8
     }
 }
 
-fn base_type(letter: u8) -> Option<FieldType>
+pub(crate) fn base_type(letter: u8) -> Option<FieldType>
     ensures { result ≡ reading.base_type letter }
 {
     match letter {
@@ -154,7 +158,7 @@ fn first_array(bytes: &[u8]) -> Result<(FieldType, &[u8]), DescriptorErr>
 }
 
 /// What stands behind a prefix that the bytes begin with.
-fn behind_prefix<'a>(bytes: &'a [u8], prefix: &[u8]) -> Option<&'a [u8]>
+pub(crate) fn behind_prefix<'a>(bytes: &'a [u8], prefix: &[u8]) -> Option<&'a [u8]>
     ensures { option_map (λ rest. rest.now) result ≡ reading.behind_prefix prefix.now bytes.now }
 {
     bytes.strip_prefix(prefix)
@@ -172,10 +176,9 @@ fn class_type(alloc: Global, bytes: &[u8]) -> Result<(FieldType, &[u8]), Descrip
 }
 
 /// The class name before the first `;`, and the bytes behind that.
-fn first_class(bytes: &[u8]) -> Option<(&[u8], &[u8])>
-    requires { IsAscii bytes.now }
+pub(crate) fn first_class(bytes: &[u8]) -> Option<(&[u8], &[u8])>
     ensures value { option_map (λ found. (found.0.now, found.1.now)) result ≡ reading.first_class bytes.now }
-    ensures ascii { IfSome result (λ found. IsAscii found.0.now) }
+    ensures ascii { IsAscii bytes.now → IfSome result (λ found. IsAscii found.0.now) }
 {
     let end = end_of_class(bytes)?;
     let name = &bytes[..end];

@@ -116,7 +116,8 @@ fn push_pair(
     name: &Name,
     descriptor: &Name,
 ) -> Result<(), NoMemory>
-    ensures { OnOk result (parts.new.items ≡ parts.old.items ++ entry.NameAndType name.now descriptor.now ∷ entry.Utf8 name.now ∷ entry.Utf8 descriptor.now ∷ []) }
+    ensures { OnOk result (parts.new.items ≡ parts.old.items ++ entry.NameAndType name.now descriptor.now
+        ∷ entry.Utf8 name.now ∷ entry.Utf8 descriptor.now ∷ []) }
 {
     parts.push(Entry::NameAndType(name.clone()?, descriptor.clone()?))?;
     push_name(parts, alloc, name)?;

@@ -3,12 +3,14 @@
 ghost use Rattle.indexmap.specs.IndexMap.{keys, values};
 ghost use Rattle.jvm_pool.specs.Entries.{size, units};
 ghost use Rattle.jvm_pool.specs.Mentions.{has, seek, with_each, with_mention, with_one};
+ghost use Rattle.jvm_pool.specs.Numbering.{AreDifferent};
 ghost use Rattle.jvm_pool.specs.Numbering.{entry_at, starts, Grows};
-ghost use Rattle.std.specs.Prelude.{◌≡◌, ◌+◌, ◌<◌, ◌≤◌, ◌↔◌, [], length, slice_get, option_copied, IfOk, IfSome, IsTrue, OnErr, OnOk, Err, None, Some, false};
+ghost use Rattle.std.specs.Prelude.{◌≡◌, ◌+◌, ◌<◌, ◌≤◌, ◌↔◌, ◌∷◌, ◌++◌, [], length, take, slice_get, option_copied, IfOk, IfSome, IsTrue, OnErr, OnOk, Err, None, Some, false};
 
 use crate::entries::Entry;
 use crate::errors::PoolErr;
 use indexmap::IndexMap;
+use kt_base::NoMemory;
 use std::alloc::Global;
 use std::marker::Model;
 
@@ -48,6 +50,21 @@ impl Pool {
         }
     }
 
+    /// The pool of these entries as they stand, in order: no part of them is added.
+    ///
+    /// They are what a class file's pool has, so they differ, and the count fits.
+    pub fn of_entries(alloc: Global, entries: Vec<Entry>) -> Result<Pool, NoMemory>
+        requires differ { AreDifferent entries.items }
+        requires fits { 1 + units entries.items ≤ 65535 }
+        ensures { IfOk result (λ pool. pool ≡ entries.items) }
+    {
+        let mut pool = Pool::new(alloc);
+        for e in entries {
+            pool.push(e)?;
+        }
+        Ok(pool)
+    }
+
     /// How many entries there are.
     pub fn len(&self) -> usize
         ensures { result ≡ length self.now }
@@ -77,7 +94,7 @@ impl Pool {
         self.indices.keys().as_slice()
     }
 
-    /// The index of an entry that is there.
+    /// The index of an entry: `None` exactly where it isn't there. Takes no memory.
     pub fn index_of(&self, e: &Entry) -> Option<u16>
         ensures { result ≡ seek 1 self.now e.now }
     {
@@ -119,6 +136,31 @@ impl Pool {
         }
     }
 
+    /// Appends an entry that is absent, as it stands, without its parts.
+    ///
+    /// Whether it is absent, `index_of` tells. An error leaves the pool as it was.
+    pub fn push(&mut self, e: Entry) -> Result<(), NoMemory>
+        requires absent { has self.old e ≡ false }
+        requires fits { 1 + units (self.old ++ e ∷ []) ≤ 65535 }
+        ensures ok { OnOk result (self.new ≡ self.old ++ e ∷ []) }
+        ensures err { OnErr result (self.new ≡ self.old) }
+    {
+        let count = self.count + e.size();
+        self.indices.insert(e, self.count as u16)?;
+        self.count = count;
+        Ok(())
+    }
+
+    /// Cuts the pool back to its first entries, so many of them, as it was when it had these alone. Takes no memory.
+    pub fn truncate(&mut self, kept: usize)
+        ensures { self.new ≡ take kept self.old }
+    {
+        if let Some(start) = start_of(&self.indices, kept) {
+            self.indices.truncate(kept);
+            self.count = u32::from(start);
+        }
+    }
+
     /// Adds an entry that is absent, and its parts. An error may leave some of them.
     fn add_new(&mut self, e: &Entry) -> Result<(), PoolErr>
         requires { has self.old e.now ≡ false }
@@ -146,14 +188,20 @@ impl Pool {
         if self.index_of(&e).is_some() {
             return Ok(());
         }
-        let count = self.count + e.size();
-        if count > 65535 {
+        if self.count + e.size() > 65535 {
             return Err(PoolErr::Full);
         }
-        self.indices.insert(e, self.count as u16)?;
-        self.count = count;
+        self.push(e)?;
         Ok(())
     }
+}
+
+/// The index of the entry at a position.
+fn start_of(indices: &IndexMap<Entry, u16>, position: usize) -> Option<u16>
+    ensures { result ≡ slice_get (values indices.now) position }
+{
+    let (_, start) = indices.get_index(position)?;
+    Some(*start)
 }
 
 /// The position of the entry that starts at an index.

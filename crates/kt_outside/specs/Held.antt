@@ -26,4 +26,5 @@ Replaces (Some files) name bytes = files name ≡ Some bytes
 
 -- a prefix of the bytes was taken, where that is told
 abbrev pub AppendsPrefix : Option (List ℕ) → Option (List ℕ) → List ℕ → Type 0
-AppendsPrefix before after bytes = (front : List ℕ) × (back : List ℕ) × (bytes ≡ front ++ back) × Appends before after front
+AppendsPrefix before after bytes = (front : List ℕ) × (back : List ℕ) × (bytes ≡ front ++ back)
+    × Appends before after front

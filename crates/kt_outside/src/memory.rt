@@ -155,7 +155,8 @@ fn bytes_of<'a>(files: &'a [(String, Vec<u8>)], name: &str) -> Option<&'a [u8]>
 /// Puts the bytes into the first file of this name, or into a new one behind all others.
 fn put_first(files: &mut Vec<(String, Vec<u8>)>, name: &str, bytes: &[u8]) -> Result<(), AllocError>
     ensures replaced { OnOk result (file_named files.new.items name.now ≡ Some bytes.now) }
-    ensures others { (other : List ℕ) → other ≢ name.now → file_named files.new.items other ≡ file_named files.old.items other }
+    ensures others { (other : List ℕ) → other ≢ name.now
+        → file_named files.new.items other ≡ file_named files.old.items other }
     ensures err { OnErr result (files.new.items ≡ files.old.items) }
 {
     let alloc = *files.allocator();

@@ -1,5 +1,5 @@
-//! The outside as the system has it. Files tell nothing of what they hold, and a stream tells what its writer tells. This is
-//! the trusted edge of the program.
+//! The outside as the system has it. Files tell nothing of what they hold, and a stream tells what its writer tells.
+//! This is the trusted edge of the program.
 
 ghost use Rattle.std.specs.Io.KnownBytes.{Appends, Keeps};
 ghost use Rattle.std.specs.Prelude.{◌≡◌, ◌+◌, ◌<◌, ◌≤◌, ℕ, List, [], ◌++◌, None, map, take, length, IfSome};
@@ -101,7 +101,8 @@ fn read_to_end<R: rt::Files>(system: &R, name: &str, into: &mut Vec<u8>) -> Resu
 fn write_once<W: Write>(stream: &mut W, bytes: &[u8]) -> Option<usize>
     ensures within { IfSome result (λ count. count ≤ length bytes.now) }
     ensures some { IfSome result (λ count. 0 < length bytes.now → 0 < count) }
-    ensures prefix { IfSome result (λ count. Appends (W.contents stream.old) (W.contents stream.new) (take count bytes.now)) }
+    ensures prefix { IfSome result
+        (λ count. Appends (W.contents stream.old) (W.contents stream.new) (take count bytes.now)) }
     ensures nothing { result ≡ None → Keeps (W.contents stream.old) (W.contents stream.new) }
 {
     for _ in 0..MOST_TURNS {

@@ -9,7 +9,7 @@ use Rattle.kt_first.specs.Programs.{Program, values_of}
 use Rattle.kt_first.specs.Trees.{IsFirst}
 use Rattle.std.specs.Prelude.{is_some}
 use Rattle.std.specs.Result.{IfOk}
-use Rattle.jvm_class.specs.Instructions.{IsPlainCode}
+use Rattle.jvm_class_first.specs.Instructions.{IsPlainCode}
 use Rattle.kt_outside.specs.Held.{Contents}
 use Rattle.ktrun.specs.declared.running.Stop.{Stop}
 use Rattle.ktrun.specs.declared.running.Finished.{Finished}

@@ -2,7 +2,7 @@
 
 ghost use Rattle.std.specs.Prelude.{◌≡◌, ◌≢◌, ℤ, List, [], map, Err, IfOk};
 ghost use Rattle.kt_base.specs.StackCode.{Prints};
-ghost use Rattle.jvm_class.specs.Instructions.{IsPlainCode};
+ghost use Rattle.jvm_class_first.specs.Instructions.{IsPlainCode};
 ghost use Rattle.kt_outside.specs.Faults.{MayAdd, Adds};
 ghost use Rattle.kt_base.specs.declared.refusals.Refusal.{Refusal};
 ghost use Rattle.kt_parser.specs.Refusals.{IsRefused};
@@ -10,7 +10,7 @@ ghost use Rattle.ktrun.specs.FirstRuns.{Ends, text_of};
 ghost use Rattle.ktrun.specs.Statuses.{Ran, IsForeign, HoldsForeign, HoldsRefused};
 
 use crate::machine::{printed_by, text_of};
-use jvm_class::{PlainErr, read_plain, write_plain};
+use jvm_class_first::{PlainErr, read_plain, write_plain};
 use kt_base::{FrontErr, NoMemory, Plain, Refusal};
 use kt_first::{FirstErr, parse_first};
 use kt_outside::{FileErr, Files};

@@ -1,7 +1,7 @@
 use Rattle.std.proofs.Common.{◌≡◌, List, ℤ, ℕ, map, sym, ap, subst, ◌∙◌}
 use Rattle.kt_base.specs.declared.stack_code.Plain.{Plain}
 use Rattle.kt_base.specs.StackCode.{Prints}
-use Rattle.jvm_class.specs.Instructions.{IsPlainCode}
+use Rattle.jvm_class_first.specs.Instructions.{IsPlainCode}
 use Rattle.kt_first.specs.Programs.{values_of}
 use Rattle.ktrun.specs.FirstRuns.{text_of}
 use Rattle.ktrun.proofs.Runs.{plain_code, prints_one, run_ends}

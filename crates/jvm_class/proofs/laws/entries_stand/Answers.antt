@@ -1,5 +1,0 @@
-use Rattle.jvm_class.proofs.Closed as closed
-use Rattle.jvm_class.proofs.laws.entries_stand.Goals as goal
-
-pub returns : goal.returns
-returns c = closed.entries_stand

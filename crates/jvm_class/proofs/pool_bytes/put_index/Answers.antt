@@ -1,5 +1,0 @@
-use Rattle.jvm_class.proofs.Closed.{has_index}
-use Rattle.jvm_class.proofs.pool_bytes.put_index.Goals as goal
-
-pub unwrap-index-requires : goal.unwrap-index-requires
-unwrap-index-requires c = has_index c.args.pool.now c.args.e.now c.index_of.result c.index_of.ensures c.requires
