@@ -451,7 +451,7 @@ unfolding file_parser further token skip on attempt loop ahead meant type_parser
 statement_83 = refl
 
 -- a NL && b NL || c
-statement_84 : refused_in (body (name (97 ∷ []) ∷ at kind.NewLine ∷ at (kind.Sign sign.Both) ∷ name (98 ∷ []) ∷ at kind.NewLine ∷ at (kind.Sign sign.Either) ∷ name (99 ∷ []) ∷ [])) ≡ None
+statement_84 : refused_in (body (name (97 ∷ []) ∷ at kind.NewLine ∷ at (kind.Sign sign.Conjunction) ∷ name (98 ∷ []) ∷ at kind.NewLine ∷ at (kind.Sign sign.Disjunction) ∷ name (99 ∷ []) ∷ [])) ≡ None
 unfolding file_parser further token skip on attempt loop ahead meant type_parser parsers most_levels same_keyword same_sign
 statement_84 = refl
 

@@ -74,11 +74,11 @@ comparison_operator = record { witness = a_sign sign.Less; value = binary.Less; 
 
 conjunction_operator : Operator BinaryOperator conjunction_of
 unfolding same_sign
-conjunction_operator = record { witness = a_sign sign.Both; value = binary.Conjunction; stands = refl; alone = (λ at. refl, λ at. refl, λ at. refl, λ at. refl, λ at. refl, λ at. refl, λ at. refl, λ at. refl) }
+conjunction_operator = record { witness = a_sign sign.Conjunction; value = binary.Conjunction; stands = refl; alone = (λ at. refl, λ at. refl, λ at. refl, λ at. refl, λ at. refl, λ at. refl, λ at. refl, λ at. refl) }
 
 disjunction_operator : Operator BinaryOperator disjunction_of
 unfolding same_sign
-disjunction_operator = record { witness = a_sign sign.Either; value = binary.Disjunction; stands = refl; alone = (λ at. refl, λ at. refl, λ at. refl, λ at. refl, λ at. refl, λ at. refl, λ at. refl, λ at. refl) }
+disjunction_operator = record { witness = a_sign sign.Disjunction; value = binary.Disjunction; stands = refl; alone = (λ at. refl, λ at. refl, λ at. refl, λ at. refl, λ at. refl, λ at. refl, λ at. refl, λ at. refl) }
 
 type_check_operator : Operator Bool type_check_of
 unfolding same_sign same_keyword

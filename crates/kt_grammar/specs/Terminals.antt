@@ -137,10 +137,10 @@ abbrev pub nothing : {A : Type 0} → Meaning A
 nothing token = None
 
 abbrev pub disjunction_of : Meaning BinaryOperator
-disjunction_of = means (is_sign sign.Either) binary.Disjunction nothing
+disjunction_of = means (is_sign sign.Disjunction) binary.Disjunction nothing
 
 abbrev pub conjunction_of : Meaning BinaryOperator
-conjunction_of = means (is_sign sign.Both) binary.Conjunction nothing
+conjunction_of = means (is_sign sign.Conjunction) binary.Conjunction nothing
 
 abbrev pub equality_of : Meaning BinaryOperator
 equality_of = means (is_sign sign.Equal) binary.Equal (means (is_sign sign.NotEqual) binary.NotEqual nothing)

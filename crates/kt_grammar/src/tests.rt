@@ -31,17 +31,17 @@ fn the_cursor_walks(rt: HostRuntime) -> Result<(), Fail> {
     let tokens = some_tokens(rt.alloc())?;
     let mut cursor = Tokens::new(tokens.as_slice());
     assert_eq!(rt; cursor.turns(), 8);
-    assert!(rt; cursor.keyword(Keyword::Val).is_some());
+    assert!(rt; cursor.take_keyword(Keyword::Val).is_some());
     let place = cursor.rest();
-    assert!(rt; cursor.soft_keyword(SoftKeyword::Until).is_some());
+    assert!(rt; cursor.take_soft_keyword(SoftKeyword::Until).is_some());
     cursor.go_to(place);
-    assert!(rt; cursor.identifier().is_some());
+    assert!(rt; cursor.take_identifier().is_some());
     cursor.skip_lines();
-    assert!(rt; cursor.sign(Sign::Arrow).is_none());
+    assert!(rt; cursor.take_sign(Sign::Arrow).is_none());
     assert_eq!(rt; cursor.far(), 4);
-    assert!(rt; cursor.sign(Sign::Assign).is_some());
+    assert!(rt; cursor.take_sign(Sign::Assign).is_some());
     cursor.skip_separators();
-    assert!(rt; cursor.identifier().is_none());
+    assert!(rt; cursor.take_identifier().is_none());
     let _refused = cursor.refuse();
     assert_eq!(rt; cursor.far(), 1);
     Ok(())

@@ -170,7 +170,7 @@ impl<'a> Tokens<'a> {
 
     /// Takes the next token where it is this sign.
     #[tactic(auto, using(crate::proofs::Behind::first_there, crate::proofs::Behind::first_passes))]
-    pub fn sign(&mut self, sign: Sign) -> Option<&'a Token>
+    pub fn take_sign(&mut self, sign: Sign) -> Option<&'a Token>
         ensures { Turned (is_sign sign) self.old (option_copied result) self.new }
     {
         if next_is_sign(self.rest, sign) {
@@ -183,7 +183,7 @@ impl<'a> Tokens<'a> {
 
     /// Takes the next token where it is this keyword.
     #[tactic(auto, using(crate::proofs::Behind::first_there, crate::proofs::Behind::first_passes))]
-    pub fn keyword(&mut self, keyword: Keyword) -> Option<&'a Token>
+    pub fn take_keyword(&mut self, keyword: Keyword) -> Option<&'a Token>
         ensures { Turned (is_keyword keyword) self.old (option_copied result) self.new }
     {
         if next_is_keyword(self.rest, keyword) {
@@ -196,7 +196,7 @@ impl<'a> Tokens<'a> {
 
     /// Takes the next token where it is spelled as this soft keyword.
     #[tactic(auto, using(crate::proofs::Behind::first_there, crate::proofs::Behind::first_passes))]
-    pub fn soft_keyword(&mut self, word: SoftKeyword) -> Option<&'a Token>
+    pub fn take_soft_keyword(&mut self, word: SoftKeyword) -> Option<&'a Token>
         ensures { Turned (is_soft_keyword word) self.old (option_copied result) self.new }
     {
         if next_is_soft_keyword(self.rest, word) {
@@ -209,7 +209,7 @@ impl<'a> Tokens<'a> {
 
     /// Takes the next token where it is of this class.
     #[tactic(auto, using(crate::proofs::Behind::first_there, crate::proofs::Behind::first_passes))]
-    pub fn class(&mut self, class: TokenClass) -> Option<&'a Token>
+    pub fn take_class(&mut self, class: TokenClass) -> Option<&'a Token>
         ensures { Turned (is_of class) self.old (option_copied result) self.new }
     {
         if next_is_of(self.rest, class) {
@@ -222,7 +222,7 @@ impl<'a> Tokens<'a> {
 
     /// Takes the next token where it is an identifier.
     #[tactic(auto, using(crate::proofs::Behind::first_there, crate::proofs::Behind::first_passes))]
-    pub fn identifier(&mut self) -> Option<&'a Token>
+    pub fn take_identifier(&mut self) -> Option<&'a Token>
         ensures { Turned is_identifier self.old (option_copied result) self.new }
     {
         if next_is_identifier(self.rest) {

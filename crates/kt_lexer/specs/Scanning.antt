@@ -182,7 +182,7 @@ double_sign c d =
     else if c == char.equals then Some sign.Equal else if c == char.less then Some sign.LessOrEqual
     else if c == char.greater then Some sign.GreaterOrEqual else None)
     else if not (c == d) then None
-    else if c == char.ampersand then Some sign.Both else if c == char.bar then Some sign.Either
+    else if c == char.ampersand then Some sign.Conjunction else if c == char.bar then Some sign.Disjunction
     else if c == char.dot then Some sign.Range else None
 
 -- the sign of this character

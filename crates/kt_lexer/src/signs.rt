@@ -92,8 +92,8 @@ fn double_sign(first: char, second: char) -> Option<Sign>
         ('=', '=') => Some(Sign::Equal),
         ('<', '=') => Some(Sign::LessOrEqual),
         ('>', '=') => Some(Sign::GreaterOrEqual),
-        ('&', '&') => Some(Sign::Both),
-        ('|', '|') => Some(Sign::Either),
+        ('&', '&') => Some(Sign::Conjunction),
+        ('|', '|') => Some(Sign::Disjunction),
         ('.', '.') => Some(Sign::Range),
         _ => None,
     }

@@ -108,7 +108,7 @@ fn tokens() -> [(&'static str, &'static str); 33] {
         ),
         (
             "== != < > <= >= && || ! !! ? ?. ?:",
-            "1:1 Equal, 1:4 NotEqual, 1:7 Less, 1:9 Greater, 1:11 LessOrEqual, 1:14 GreaterOrEqual, 1:17 Both, 1:20 Either, 1:23 Not, 1:25 NotNull, 1:28 Question, 1:30 SafeDot, 1:33 Elvis, 1:35 end, ",
+            "1:1 Equal, 1:4 NotEqual, 1:7 Less, 1:9 Greater, 1:11 LessOrEqual, 1:14 GreaterOrEqual, 1:17 Conjunction, 1:20 Disjunction, 1:23 Not, 1:25 NotNull, 1:28 Question, 1:30 SafeDot, 1:33 Elvis, 1:35 end, ",
         ),
         (
             ". .. , : ; -> as? !is",

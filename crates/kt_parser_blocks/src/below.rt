@@ -61,7 +61,7 @@ impl<
     S: Fn(Global, u32, Context, &mut Tokens<'_>) -> Result<Statement, ParseError> + Copy,
 > Below<E, S> {
     /// An expression of at most `room` levels.
-    pub fn part(
+    pub fn inner_expression(
         &self,
         precedence: Precedence,
         at: Context,

@@ -28,7 +28,7 @@ fn else_keyword<'a>(tokens: &mut Tokens<'a>) -> Result<&'a Token, ParseError>
     ensures { ReadsAs (λ token. token.now) (rules.else_keyword tokens.old) result tokens.new }
 {
     // A `;` may stand before it, and what follows is the same with it and without.
-    match tokens.sign(Sign::Semicolon) {
+    match tokens.take_sign(Sign::Semicolon) {
         Some(_) => behind_lines(tokens),
         None => behind_lines(tokens),
     }
@@ -70,7 +70,7 @@ impl<
         ensures { ReadsAs expression_tree (rules.if_rest self.now.room at start.now tokens.old) result tokens.new }
     {
         expect(tokens, Sign::OpenParenthesis)?;
-        let condition = self.part(Precedence::Disjunction, at, tokens)?;
+        let condition = self.inner_expression(Precedence::Disjunction, at, tokens)?;
         expect(tokens, Sign::CloseParenthesis)?;
         tokens.skip_lines();
         let then = self.inner_body(at, tokens)?;
@@ -135,7 +135,7 @@ impl<
         requires { AreRead self.now.room (E.pre self.now.expression) (E.post self.now.expression) (S.pre self.now.statement) (S.post self.now.statement) }
         ensures { ReadsAs (option_map expression_tree) (rules.subject_rest self.now.room at tokens.old) result tokens.new }
     {
-        let subject = self.part(Precedence::Disjunction, at, tokens)?;
+        let subject = self.inner_expression(Precedence::Disjunction, at, tokens)?;
         expect(tokens, Sign::CloseParenthesis)?;
         Ok(Some(subject))
     }
@@ -221,7 +221,7 @@ impl<
         requires { AreRead self.now.room (E.pre self.now.expression) (E.post self.now.expression) (S.pre self.now.statement) (S.post self.now.statement) }
         ensures { ReadsAs (map condition_tree) (rules.entry_head self.now.room at has_subject tokens.old) result tokens.new }
     {
-        match tokens.keyword(Keyword::Else) {
+        match tokens.take_keyword(Keyword::Else) {
             Some(_) => Ok(Items::new(self.alloc)),
             None => several(
                 self.alloc,
@@ -284,7 +284,7 @@ impl<
         requires { AreRead self.now.room (E.pre self.now.expression) (E.post self.now.expression) (S.pre self.now.statement) (S.post self.now.statement) }
         ensures { ReadsAs condition_tree (rules.equals_condition self.now.room at tokens.old) result tokens.new }
     {
-        let value = self.part(Precedence::Disjunction, at, tokens)?;
+        let value = self.inner_expression(Precedence::Disjunction, at, tokens)?;
         Ok(equals(self.alloc, value)?)
     }
 }

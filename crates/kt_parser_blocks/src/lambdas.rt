@@ -70,7 +70,7 @@ impl<
         requires { AreRead self.now.room (E.pre self.now.expression) (E.post self.now.expression) (S.pre self.now.statement) (S.post self.now.statement) }
         ensures { ReadsAs body_tree (rules.body_over self.now.room at tokens.old) result tokens.new }
     {
-        match tokens.sign(Sign::OpenBrace) {
+        match tokens.take_sign(Sign::OpenBrace) {
             Some(_) => self.braced_body(at, tokens),
             None => self.single_body(at, tokens),
         }

@@ -63,7 +63,7 @@ fn super_arguments(
 ) -> Result<Option<SuperArguments>, ParseError>
     ensures { ReadsAs maybe_super_arguments (rests.super_arguments tokens.old) result tokens.new }
 {
-    match tokens.sign(Sign::OpenParenthesis) {
+    match tokens.take_sign(Sign::OpenParenthesis) {
         Some(parenthesis) => super_arguments_rest(alloc, parenthesis, tokens),
         None => Ok(None),
     }

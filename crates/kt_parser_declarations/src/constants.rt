@@ -72,7 +72,7 @@ fn text_end(
 ) -> Result<Turn<Items<TextPart>, Items<TextPart>>, ParseError>
     ensures { ReadsAs (turn_tree (map (λ part. part)) (map (λ part. part))) (rests.text_end (map (λ part. part) parts) tokens.old) result tokens.new }
 {
-    match tokens.class(TokenClass::CloseQuote) {
+    match tokens.take_class(TokenClass::CloseQuote) {
         Some(_) => Ok(Turn::Done(parts)),
         None => Err(ParseError::Refused),
     }
@@ -114,7 +114,7 @@ fn text_value(alloc: Global, tokens: &mut Tokens<'_>) -> Result<ConstantValue, P
 fn minus(tokens: &mut Tokens<'_>) -> bool
     ensures { rests.minus tokens.old ≡ Ok (result, tokens.new) }
 {
-    match tokens.sign(Sign::Minus) {
+    match tokens.take_sign(Sign::Minus) {
         Some(_) => true,
         None => false,
     }
@@ -142,7 +142,7 @@ fn literal_behind(negative: bool, tokens: &mut Tokens<'_>) -> Result<ConstantVal
 fn constant_value(alloc: Global, tokens: &mut Tokens<'_>) -> Result<ConstantValue, ParseError>
     ensures { ReadsAs (λ value. value) (parser.constant_value tokens.old) result tokens.new }
 {
-    match tokens.class(TokenClass::OpenQuote) {
+    match tokens.take_class(TokenClass::OpenQuote) {
         Some(_) => text_value(alloc, tokens),
         None => literal_value(tokens),
     }

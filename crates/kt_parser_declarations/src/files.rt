@@ -86,11 +86,11 @@ fn class_or_function(alloc: Global, tokens: &mut Tokens<'_>) -> Result<Declarati
 fn declaration(alloc: Global, tokens: &mut Tokens<'_>) -> Result<Declaration, ParseError>
     ensures { ReadsAs declaration_tree (parser.declaration_parser tokens.old) result tokens.new }
 {
-    match tokens.keyword(Keyword::Interface) {
+    match tokens.take_keyword(Keyword::Interface) {
         Some(start) => interface_declaration(alloc, start, tokens),
-        None => match tokens.soft_keyword(SoftKeyword::Enum) {
+        None => match tokens.take_soft_keyword(SoftKeyword::Enum) {
             Some(start) => enum_rest(alloc, start, tokens),
-            None => match tokens.soft_keyword(SoftKeyword::Const) {
+            None => match tokens.take_soft_keyword(SoftKeyword::Const) {
                 Some(start) => constant_declaration(alloc, start, tokens),
                 None => class_or_function(alloc, tokens),
             },

@@ -51,7 +51,7 @@ pub(crate) fn supertypes<T: Node + Drop, F: Fn(&mut Tokens<'_>) -> Result<T, Par
     requires { F.IsAlwaysCallable item.now }
     ensures { (p : Parser Token T.Tree) → EachReads T.tree p (F.post item.now) → ReadsAs (map T.tree) (parser.supertypes p tokens.old) result tokens.new }
 {
-    match tokens.sign(Sign::Colon) {
+    match tokens.take_sign(Sign::Colon) {
         Some(_) => supertypes_rest(alloc, tokens, item),
         None => Ok(Items::new(alloc)),
     }

@@ -53,7 +53,7 @@ pub(crate) fn type_parameters(
 ) -> Result<Items<TypeParameter>, ParseError>
     ensures { ReadsAs (map type_parameter_tree) (parser.type_parameters tokens.old) result tokens.new }
 {
-    match tokens.sign(Sign::Less) {
+    match tokens.take_sign(Sign::Less) {
         Some(_) => type_parameters_rest(alloc, tokens),
         None => Ok(Items::new(alloc)),
     }
@@ -152,7 +152,7 @@ pub(crate) fn constructor_parameters(
 ) -> Result<Items<ConstructorParameter>, ParseError>
     ensures { ReadsAs (map constructor_parameter_tree) (parser.constructor_parameters tokens.old) result tokens.new }
 {
-    match tokens.sign(Sign::OpenParenthesis) {
+    match tokens.take_sign(Sign::OpenParenthesis) {
         Some(_) => constructor_parameters_rest(alloc, tokens),
         None => Ok(Items::new(alloc)),
     }

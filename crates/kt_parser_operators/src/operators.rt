@@ -102,7 +102,7 @@ impl<
         ensures { ReadsAs (turn_tree expression_tree expression_tree) (rules.binary_rest self.now.below.room at level operator (expression_tree left) tokens.old) result tokens.new }
     {
         tokens.skip_lines();
-        let right = self.below.part(right_operand(level), at, tokens)?;
+        let right = self.below.inner_expression(right_operand(level), at, tokens)?;
         Ok(Turn::More(binary(self.below.alloc, operator, left, right)?))
     }
 
@@ -304,7 +304,7 @@ impl<
         requires { AreRead self.now.below.room (E.pre self.now.below.expression) (E.post self.now.below.expression) (S.pre self.now.below.statement) (S.post self.now.below.statement) }
         ensures { ReadsAs expression_tree (rules.prefix_rest self.now.below.room at start.now operator tokens.old) result tokens.new }
     {
-        let operand = self.below.part(Precedence::Prefix, at, tokens)?;
+        let operand = self.below.inner_expression(Precedence::Prefix, at, tokens)?;
         Ok(prefix(self.below.alloc, start.pos, operator, operand)?)
     }
 }

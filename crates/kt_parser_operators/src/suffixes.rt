@@ -76,7 +76,7 @@ impl<
         + Copy,
     S: Fn(Global, u32, Context, &mut Tokens<'_>) -> Result<Statement, ParseError> + Copy,
 > Operators<E, S> {
-    fn postfix_turn(
+    fn suffix_turn(
         &self,
         at: Context,
         value: Expression,
@@ -124,7 +124,7 @@ impl<
         repeat(
             tokens,
             first,
-            &|value: Expression, tokens: &mut Tokens<'_>| self.postfix_turn(at, value, tokens),
+            &|value: Expression, tokens: &mut Tokens<'_>| self.suffix_turn(at, value, tokens),
         )
     }
 
@@ -207,7 +207,7 @@ impl<
         requires { AreRead self.now.below.room (E.pre self.now.below.expression) (E.post self.now.below.expression) (S.pre self.now.below.statement) (S.post self.now.below.statement) }
         ensures { ReadsAs suffix_tree (rules.suffix self.now.below.room at tokens.old) result tokens.new }
     {
-        match tokens.sign(Sign::NotNull) {
+        match tokens.take_sign(Sign::NotNull) {
             Some(_) => Ok(Suffix::NotNull),
             None => match sign_if(self.below.is_deep(), tokens, Sign::OpenBracket) {
                 Some(_) => self.index_rest(at, tokens),
@@ -221,7 +221,7 @@ impl<
         requires { AreRead self.now.below.room (E.pre self.now.below.expression) (E.post self.now.below.expression) (S.pre self.now.below.statement) (S.post self.now.below.statement) }
         ensures { ReadsAs suffix_tree (rules.index_rest self.now.below.room at tokens.old) result tokens.new }
     {
-        let element = self.below.part(Precedence::Disjunction, at, tokens)?;
+        let element = self.below.inner_expression(Precedence::Disjunction, at, tokens)?;
         expect(tokens, Sign::CloseBracket)?;
         Ok(Suffix::Index(element))
     }
@@ -246,7 +246,7 @@ impl<
         requires { AreRead self.now.below.room (E.pre self.now.below.expression) (E.post self.now.below.expression) (S.pre self.now.below.statement) (S.post self.now.below.statement) }
         ensures { ReadsAs (map expression_tree) (rules.call_arguments self.now.below.room at tokens.old) result tokens.new }
     {
-        match tokens.sign(Sign::OpenParenthesis) {
+        match tokens.take_sign(Sign::OpenParenthesis) {
             Some(_) => self.arguments_rest(at, tokens),
             None => self.lambda_argument(at, tokens),
         }
@@ -280,7 +280,7 @@ impl<
             self.below.alloc,
             tokens,
             Sign::CloseParenthesis,
-            &|tokens: &mut Tokens<'_>| self.below.part(Precedence::Disjunction, at, tokens),
+            &|tokens: &mut Tokens<'_>| self.below.inner_expression(Precedence::Disjunction, at, tokens),
         )
     }
 

@@ -54,7 +54,7 @@ impl<
         requires { AreRead self.now.below.room (E.pre self.now.below.expression) (E.post self.now.below.expression) (S.pre self.now.below.statement) (S.post self.now.below.statement) }
         ensures { ReadsAs expression_tree (rules.parenthesized_rest self.now.below.room at start.now tokens.old) result tokens.new }
     {
-        let inner = self.below.part(Precedence::Disjunction, at, tokens)?;
+        let inner = self.below.inner_expression(Precedence::Disjunction, at, tokens)?;
         expect(tokens, Sign::CloseParenthesis)?;
         Ok(parenthesized(self.below.alloc, start.pos, inner)?)
     }
@@ -69,7 +69,7 @@ impl<
         requires { AreRead self.now.below.room (E.pre self.now.below.expression) (E.post self.now.below.expression) (S.pre self.now.below.statement) (S.post self.now.below.statement) }
         ensures { ReadsAs expression_tree (rules.throw_rest self.now.below.room at start.now tokens.old) result tokens.new }
     {
-        let exception = self.below.part(Precedence::Disjunction, at, tokens)?;
+        let exception = self.below.inner_expression(Precedence::Disjunction, at, tokens)?;
         Ok(throw(self.below.alloc, start.pos, exception)?)
     }
 
@@ -103,7 +103,7 @@ impl<
         let value = attempt_if(
             self.below.is_deep(),
             tokens,
-            &|tokens: &mut Tokens<'_>| self.below.part(Precedence::Disjunction, at, tokens),
+            &|tokens: &mut Tokens<'_>| self.below.inner_expression(Precedence::Disjunction, at, tokens),
         )?;
         Ok(return_with(self.below.alloc, start.pos, value)?)
     }
@@ -113,11 +113,11 @@ impl<
         requires { AreRead self.now.below.room (E.pre self.now.below.expression) (E.post self.now.below.expression) (S.pre self.now.below.statement) (S.post self.now.below.statement) }
         ensures { ReadsAs expression_tree (rules.braced self.now.below.room at tokens.old) result tokens.new }
     {
-        match tokens.sign(Sign::OpenBrace) {
+        match tokens.take_sign(Sign::OpenBrace) {
             Some(token) => self.below.lambda_rest(token, tokens),
-            None => match tokens.keyword(Keyword::When) {
+            None => match tokens.take_keyword(Keyword::When) {
                 Some(token) => self.below.when_rest(token, at, tokens),
-                None => match tokens.keyword(Keyword::Try) {
+                None => match tokens.take_keyword(Keyword::Try) {
                     Some(token) => self.below.try_rest(token, at, tokens),
                     None => self.atom(at, tokens),
                 },
@@ -130,11 +130,11 @@ impl<
         requires { AreRead self.now.below.room (E.pre self.now.below.expression) (E.post self.now.below.expression) (S.pre self.now.below.statement) (S.post self.now.below.statement) }
         ensures { ReadsAs expression_tree (rules.atom self.now.below.room at tokens.old) result tokens.new }
     {
-        match tokens.class(TokenClass::OpenQuote) {
+        match tokens.take_class(TokenClass::OpenQuote) {
             Some(token) => self.string_rest(token.pos, at, tokens),
-            None => match tokens.keyword(Keyword::This) {
+            None => match tokens.take_keyword(Keyword::This) {
                 Some(token) => Ok(this(token.pos)),
-                None => match tokens.identifier() {
+                None => match tokens.take_identifier() {
                     Some(token) => Ok(name(token.pos, name_of(self.below.alloc, token)?)),
                     None => literal_atom(tokens),
                 },

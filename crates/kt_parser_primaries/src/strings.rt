@@ -51,7 +51,7 @@ impl<
         requires { AreRead self.now.below.room (E.pre self.now.below.expression) (E.post self.now.below.expression) (S.pre self.now.below.statement) (S.post self.now.below.statement) }
         ensures { ReadsAs (turn_tree (map part_tree) expression_tree) (rules.string_turn self.now.below.room at start (map part_tree parts) tokens.old) result tokens.new }
     {
-        match tokens.class(TokenClass::CloseQuote) {
+        match tokens.take_class(TokenClass::CloseQuote) {
             Some(_) => Ok(Turn::Done(template(start, parts.into_items()))),
             None => self.further_part(at, parts, tokens),
         }
@@ -117,7 +117,7 @@ impl<
         ensures { ReadsAs part_tree (rules.hole_rest self.now.below.room at tokens.old) result tokens.new }
     {
         tokens.skip_lines();
-        let inner = self.below.part(Precedence::Disjunction, at, tokens)?;
+        let inner = self.below.inner_expression(Precedence::Disjunction, at, tokens)?;
         tokens.skip_lines();
         expect(tokens, Sign::CloseBrace)?;
         Ok(hole(self.below.alloc, inner)?)

@@ -37,8 +37,8 @@ module _ (n : ℕ) (at : Context) where
   abbrev pub simple : Parser Token StatementTree
   simple = s.simple (suc n) (parsers n) at
 
-  abbrev pub unbraced : Parser Token StatementTree
-  unbraced = s.unless (is_sign sign.OpenBrace) simple
+  abbrev pub simple_without_brace : Parser Token StatementTree
+  simple_without_brace = s.unless (is_sign sign.OpenBrace) simple
 
   -- ---- loops
 
@@ -67,10 +67,10 @@ module _ (n : ℕ) (at : Context) where
   abbrev pub for_rest : Token → Parser Token StatementTree
   for_rest = s.for_rest (suc n) (parsers n) at
 
-  abbrev pub unlocal : Parser Token StatementTree
-  unlocal = on_if (some_levels (parsers n).levels) (is_keyword word.While) while_rest
+  abbrev pub loop_or_simple : Parser Token StatementTree
+  loop_or_simple = on_if (some_levels (parsers n).levels) (is_keyword word.While) while_rest
       (on_if (some_levels (parsers n).levels) (is_keyword word.Do) do_rest
-      (on_if (some_levels (parsers n).levels) (is_keyword word.For) for_rest unbraced))
+      (on_if (some_levels (parsers n).levels) (is_keyword word.For) for_rest simple_without_brace))
 
   -- ---- declarations of variables
 

@@ -72,14 +72,14 @@ impl<
     {
         match take_variable(true, tokens) {
             Some((token, variable)) => self.local_rest(token, variable, at, tokens),
-            None => self.unlocal(at, tokens),
+            None => self.loop_or_simple(at, tokens),
         }
     }
 
     /// A statement that declares no variable.
-    fn unlocal(&self, at: Context, tokens: &mut Tokens<'_>) -> Result<Statement, ParseError>
+    fn loop_or_simple(&self, at: Context, tokens: &mut Tokens<'_>) -> Result<Statement, ParseError>
         requires { AreRead self.now.below.room (E.pre self.now.below.expression) (E.post self.now.below.expression) (S.pre self.now.below.statement) (S.post self.now.below.statement) }
-        ensures { ReadsAs statement_tree (rules.unlocal self.now.below.room at tokens.old) result tokens.new }
+        ensures { ReadsAs statement_tree (rules.loop_or_simple self.now.below.room at tokens.old) result tokens.new }
     {
         let deep = self.below.is_deep();
         match keyword_if(deep, tokens, Keyword::While) {
@@ -88,16 +88,16 @@ impl<
                 Some(token) => self.do_rest(token, at, tokens),
                 None => match keyword_if(deep, tokens, Keyword::For) {
                     Some(token) => self.for_rest(token, at, tokens),
-                    None => self.unbraced(at, tokens),
+                    None => self.simple_without_brace(at, tokens),
                 },
             },
         }
     }
 
     /// No statement begins with `{`.
-    fn unbraced(&self, at: Context, tokens: &mut Tokens<'_>) -> Result<Statement, ParseError>
+    fn simple_without_brace(&self, at: Context, tokens: &mut Tokens<'_>) -> Result<Statement, ParseError>
         requires { AreRead self.now.below.room (E.pre self.now.below.expression) (E.post self.now.below.expression) (S.pre self.now.below.statement) (S.post self.now.below.statement) }
-        ensures { ReadsAs statement_tree (rules.unbraced self.now.below.room at tokens.old) result tokens.new }
+        ensures { ReadsAs statement_tree (rules.simple_without_brace self.now.below.room at tokens.old) result tokens.new }
     {
         if begins_with_brace(tokens) {
             return Err(tokens.refuse());
@@ -150,7 +150,7 @@ impl<
         ensures { ReadsAs statement_tree (rules.assign_rest self.now.below.room at (expression_tree target) operator tokens.old) result tokens.new }
     {
         tokens.skip_lines();
-        let value = self.below.part(Precedence::Disjunction, at, tokens)?;
+        let value = self.below.inner_expression(Precedence::Disjunction, at, tokens)?;
         Ok(assign(self.below.alloc, target, operator, value)?)
     }
 
@@ -211,7 +211,7 @@ impl<
         ensures { ReadsAs (option_map expression_tree) (rules.initial_value self.now.below.room at tokens.old) result tokens.new }
     {
         tokens.skip_lines();
-        let value = self.below.part(Precedence::Disjunction, at, tokens)?;
+        let value = self.below.inner_expression(Precedence::Disjunction, at, tokens)?;
         Ok(Some(value))
     }
 
@@ -226,7 +226,7 @@ impl<
         ensures { ReadsAs statement_tree (rules.while_rest self.now.below.room at start.now tokens.old) result tokens.new }
     {
         expect(tokens, Sign::OpenParenthesis)?;
-        let condition = self.below.part(Precedence::Disjunction, at, tokens)?;
+        let condition = self.below.inner_expression(Precedence::Disjunction, at, tokens)?;
         expect(tokens, Sign::CloseParenthesis)?;
         tokens.skip_lines();
         let body = self.below.inner_body(in_loop(at), tokens)?;
@@ -248,7 +248,7 @@ impl<
         tokens.skip_lines();
         expect_keyword(tokens, Keyword::While)?;
         expect(tokens, Sign::OpenParenthesis)?;
-        let condition = self.below.part(Precedence::Disjunction, at, tokens)?;
+        let condition = self.below.inner_expression(Precedence::Disjunction, at, tokens)?;
         expect(tokens, Sign::CloseParenthesis)?;
         Ok(do_while(self.below.alloc, start.pos, body, condition)?)
     }
@@ -280,7 +280,7 @@ impl<
         requires { AreRead self.now.below.room (E.pre self.now.below.expression) (E.post self.now.below.expression) (S.pre self.now.below.statement) (S.post self.now.below.statement) }
         ensures { ReadsAs statement_tree (rules.for_range self.now.below.room at start.now variable.now tokens.old) result tokens.new }
     {
-        let first = self.below.part(Precedence::Additive, at, tokens)?;
+        let first = self.below.inner_expression(Precedence::Additive, at, tokens)?;
         let (_, operator) = range_operator(tokens)?;
         self.for_bound(start, variable, first, operator, at, tokens)
     }
@@ -298,7 +298,7 @@ impl<
         requires { AreRead self.now.below.room (E.pre self.now.below.expression) (E.post self.now.below.expression) (S.pre self.now.below.statement) (S.post self.now.below.statement) }
         ensures { ReadsAs statement_tree (rules.for_bound self.now.below.room at start.now variable.now (expression_tree first) operator tokens.old) result tokens.new }
     {
-        let bound = self.below.part(Precedence::Additive, at, tokens)?;
+        let bound = self.below.inner_expression(Precedence::Additive, at, tokens)?;
         self.for_end(start, variable, first, operator, bound, at, tokens)
     }
 

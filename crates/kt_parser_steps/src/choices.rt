@@ -18,7 +18,7 @@ use kt_tree::{Keyword, Sign, SoftKeyword, Token};
 pub fn sign_if<'a>(allowed: bool, tokens: &mut Tokens<'a>, sign: Sign) -> Option<&'a Token>
     ensures { TurnedIf allowed (is_sign sign) tokens.old (option_copied result) tokens.new }
 {
-    if allowed { tokens.sign(sign) } else { None }
+    if allowed { tokens.take_sign(sign) } else { None }
 }
 
 /// Takes the next token where this keyword is allowed, and is it.
@@ -26,7 +26,7 @@ pub fn keyword_if<'a>(allowed: bool, tokens: &mut Tokens<'a>, keyword: Keyword) 
     ensures { TurnedIf allowed (is_keyword keyword) tokens.old (option_copied result) tokens.new }
 {
     if allowed {
-        tokens.keyword(keyword)
+        tokens.take_keyword(keyword)
     } else {
         None
     }
@@ -41,7 +41,7 @@ pub fn soft_keyword_if<'a>(
     ensures { TurnedIf allowed (is_soft_keyword word) tokens.old (option_copied result) tokens.new }
 {
     if allowed {
-        tokens.soft_keyword(word)
+        tokens.take_soft_keyword(word)
     } else {
         None
     }
@@ -51,7 +51,7 @@ pub fn soft_keyword_if<'a>(
 pub fn class_if<'a>(allowed: bool, tokens: &mut Tokens<'a>, class: TokenClass) -> Option<&'a Token>
     ensures { TurnedIf allowed (is_of class) tokens.old (option_copied result) tokens.new }
 {
-    if allowed { tokens.class(class) } else { None }
+    if allowed { tokens.take_class(class) } else { None }
 }
 
 /// Takes a part where it is allowed and can be read. Else the cursor goes back.

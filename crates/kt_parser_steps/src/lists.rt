@@ -37,7 +37,7 @@ fn comma_turn<T: Node + Drop, F: Fn(&mut Tokens<'_>) -> Result<T, ParseError>>(
     requires { F.IsAlwaysCallable item.now }
     ensures { (p : Parser Token T.Tree) → EachReads T.tree p (F.post item.now) → ReadsAs (turn_tree (map T.tree) (map T.tree)) (parsers.comma_turn (is_sign sign.Comma) (is_sign close) p (map T.tree items) tokens.old) result tokens.new }
 {
-    match tokens.sign(Sign::Comma) {
+    match tokens.take_sign(Sign::Comma) {
         Some(_) => {
             let further = item(tokens)?;
             items.push(further)?;
@@ -80,7 +80,7 @@ pub fn maybe_comma_list<T: Node + Drop, F: Fn(&mut Tokens<'_>) -> Result<T, Pars
     requires { F.IsAlwaysCallable item.now }
     ensures { (p : Parser Token T.Tree) → EachReads T.tree p (F.post item.now) → ReadsAs (map T.tree) (readers.maybe_commas (is_sign close) p tokens.old) result tokens.new }
 {
-    match tokens.sign(close) {
+    match tokens.take_sign(close) {
         Some(_) => Ok(Items::new(alloc)),
         None => comma_list(alloc, tokens, close, item),
     }
@@ -102,7 +102,7 @@ fn comma_behind<'a>(lead: Lead, tokens: &mut Tokens<'a>) -> Option<&'a Token>
 {
     let place = tokens.rest();
     skip_lead(lead, tokens);
-    match tokens.sign(Sign::Comma) {
+    match tokens.take_sign(Sign::Comma) {
         Some(token) => Some(token),
         None => {
             tokens.go_to(place);
@@ -157,7 +157,7 @@ pub fn several<T: Node + Drop, F: Fn(&mut Tokens<'_>) -> Result<T, ParseError>>(
 fn gap(tokens: &mut Tokens<'_>, close: TokenClass) -> Result<(), ParseError>
     ensures { ReadsAs (λ u. u) (parsers.gap is_separator (is_of close) tokens.old) result tokens.new }
 {
-    match tokens.class(TokenClass::Separator) {
+    match tokens.take_class(TokenClass::Separator) {
         Some(_) => {
             tokens.skip_separators();
             Ok(())
@@ -182,7 +182,7 @@ fn separated_turn<T: Node + Drop, F: Fn(&mut Tokens<'_>) -> Result<T, ParseError
     requires { F.IsAlwaysCallable item.now }
     ensures { (p : Parser Token T.Tree) → EachReads T.tree p (F.post item.now) → ReadsAs (turn_tree (map T.tree) (λ list. (map T.tree list.0, list.1))) (given (ended place_of) (parsers.item_turn is_separator (is_of close) p (map T.tree items)) tokens.old) result tokens.new }
 {
-    match tokens.class(close) {
+    match tokens.take_class(close) {
         Some(token) => Ok(Turn::Done((items, token.pos))),
         None => {
             let next = item(tokens)?;

@@ -44,7 +44,7 @@ pub fn binary_operator(level: BinaryLevel, token: &Token) -> Option<BinaryOperat
 fn disjunction(token: &Token) -> Option<BinaryOperator>
     ensures { result ≡ spec.disjunction_of token.now }
 {
-    if token.is_sign(Sign::Either) {
+    if token.is_sign(Sign::Disjunction) {
         Some(BinaryOperator::Disjunction)
     } else {
         None
@@ -55,7 +55,7 @@ fn disjunction(token: &Token) -> Option<BinaryOperator>
 fn conjunction(token: &Token) -> Option<BinaryOperator>
     ensures { result ≡ spec.conjunction_of token.now }
 {
-    if token.is_sign(Sign::Both) {
+    if token.is_sign(Sign::Conjunction) {
         Some(BinaryOperator::Conjunction)
     } else {
         None

@@ -20,7 +20,7 @@ use std::alloc::Global;
 pub fn expect<'a>(tokens: &mut Tokens<'a>, sign: Sign) -> Result<&'a Token, ParseError>
     ensures { ReadsAs (λ token. token.now) (readers.expect sign tokens.old) result tokens.new }
 {
-    match tokens.sign(sign) {
+    match tokens.take_sign(sign) {
         Some(token) => Ok(token),
         None => Err(ParseError::Refused),
     }
@@ -31,7 +31,7 @@ pub fn expect<'a>(tokens: &mut Tokens<'a>, sign: Sign) -> Result<&'a Token, Pars
 pub fn expect_identifier<'a>(tokens: &mut Tokens<'a>) -> Result<&'a Token, ParseError>
     ensures { ReadsAs (λ token. token.now) (parsers.token is_identifier tokens.old) result tokens.new }
 {
-    match tokens.identifier() {
+    match tokens.take_identifier() {
         Some(token) => Ok(token),
         None => Err(ParseError::Refused),
     }
@@ -61,7 +61,7 @@ pub fn sign_ahead(tokens: &mut Tokens<'_>, sign: Sign) -> bool
     ensures { Tries (parsers.ahead (is_sign sign) tokens.old) tokens.old result tokens.new }
 {
     let place = tokens.rest();
-    match tokens.sign(sign) {
+    match tokens.take_sign(sign) {
         Some(_) => {
             end_look(tokens, place);
             true
@@ -76,7 +76,7 @@ pub fn class_ahead(tokens: &mut Tokens<'_>, class: TokenClass) -> bool
     ensures { Tries (parsers.ahead (is_of class) tokens.old) tokens.old result tokens.new }
 {
     let place = tokens.rest();
-    match tokens.class(class) {
+    match tokens.take_class(class) {
         Some(_) => {
             end_look(tokens, place);
             true
@@ -141,7 +141,7 @@ pub fn expect_keyword<'a>(
 ) -> Result<&'a Token, ParseError>
     ensures { ReadsAs (λ token. token.now) (parsers.token (is_keyword keyword) tokens.old) result tokens.new }
 {
-    match tokens.keyword(keyword) {
+    match tokens.take_keyword(keyword) {
         Some(token) => Ok(token),
         None => Err(ParseError::Refused),
     }
@@ -155,7 +155,7 @@ pub fn expect_soft_keyword<'a>(
 ) -> Result<&'a Token, ParseError>
     ensures { ReadsAs (λ token. token.now) (parsers.token (is_soft_keyword word) tokens.old) result tokens.new }
 {
-    match tokens.soft_keyword(word) {
+    match tokens.take_soft_keyword(word) {
         Some(token) => Ok(token),
         None => Err(ParseError::Refused),
     }

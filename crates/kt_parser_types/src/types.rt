@@ -51,7 +51,7 @@ impl<F: Fn(Global, u32, &mut Tokens<'_>) -> Result<TypeReference, ParseError>> T
             self.alloc,
             tokens,
             close,
-            &|tokens: &mut Tokens<'_>| self.part(tokens),
+            &|tokens: &mut Tokens<'_>| self.inner_expression(tokens),
         )
     }
 
@@ -67,7 +67,7 @@ impl<F: Fn(Global, u32, &mut Tokens<'_>) -> Result<TypeReference, ParseError>> T
             self.alloc,
             tokens,
             close,
-            &|tokens: &mut Tokens<'_>| self.part(tokens),
+            &|tokens: &mut Tokens<'_>| self.inner_expression(tokens),
         )
     }
 
@@ -128,7 +128,7 @@ impl<F: Fn(Global, u32, &mut Tokens<'_>) -> Result<TypeReference, ParseError>> T
         requires { ReadsBelow self.now.room (F.pre self.now.read) (F.post self.now.read) }
         ensures { ReadsAs type_tree (readers.result_type suspends (type_parser self.now.room) (map type_tree parameters) tokens.old) result tokens.new }
     {
-        let outcome = self.part(tokens)?;
+        let outcome = self.inner_expression(tokens)?;
         Ok(function(self.alloc, suspends, parameters, outcome)?)
     }
 
@@ -153,7 +153,7 @@ impl<F: Fn(Global, u32, &mut Tokens<'_>) -> Result<TypeReference, ParseError>> T
         requires { ReadsBelow self.now.room (F.pre self.now.read) (F.post self.now.read) }
         ensures { ReadsAs type_tree (readers.behind_types (type_parser self.now.room) (map type_tree types) tokens.old) result tokens.new }
     {
-        match tokens.sign(Sign::Arrow) {
+        match tokens.take_sign(Sign::Arrow) {
             Some(_) => self.outcome(false, types, tokens),
             None => match only(types) {
                 Some(inner) => {
@@ -184,7 +184,7 @@ impl<F: Fn(Global, u32, &mut Tokens<'_>) -> Result<TypeReference, ParseError>> T
         if suspends(tokens) {
             return self.suspending(tokens);
         }
-        match tokens.sign(Sign::OpenParenthesis) {
+        match tokens.take_sign(Sign::OpenParenthesis) {
             Some(_) => self.behind_parenthesis(tokens),
             None => self.named_or_nullable(tokens),
         }
@@ -196,7 +196,7 @@ fn suspends(tokens: &mut Tokens<'_>) -> bool
     ensures { Tries (suspend_ahead tokens.old) tokens.old result tokens.new }
 {
     let place = tokens.rest();
-    match tokens.soft_keyword(SoftKeyword::Suspend) {
+    match tokens.take_soft_keyword(SoftKeyword::Suspend) {
         Some(_) => {
             if sign_ahead(tokens, Sign::OpenParenthesis) {
                 true
@@ -226,7 +226,7 @@ fn maybe_nullable(
 ) -> Result<TypeReference, ParseError>
     ensures { ReadsAs type_tree (readers.maybe_nullable (type_tree inner) tokens.old) result tokens.new }
 {
-    match tokens.sign(Sign::Question) {
+    match tokens.take_sign(Sign::Question) {
         Some(_) => Ok(nullable(alloc, inner)?),
         None => Ok(inner),
     }
@@ -291,7 +291,7 @@ pub fn annotation(
 ) -> Result<Option<TypeReference>, ParseError>
     ensures { ReadsAs maybe_type (readers.maybe (is_sign sign.Colon) (type_parser room) tokens.old) result tokens.new }
 {
-    match tokens.sign(Sign::Colon) {
+    match tokens.take_sign(Sign::Colon) {
         Some(_) => annotation_rest(alloc, room, tokens),
         None => Ok(None),
     }

@@ -150,9 +150,9 @@ pub enum Sign {
     /// `>=`
     GreaterOrEqual,
     /// `&&`
-    Both,
+    Conjunction,
     /// `||`
-    Either,
+    Disjunction,
     /// `!`
     Not,
     /// `!!`

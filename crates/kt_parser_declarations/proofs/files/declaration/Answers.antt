@@ -4,11 +4,11 @@ use Rattle.kt_parser_declarations.proofs.files.declaration.Goals as goal
 pub returns-in-Some : goal.returns-in-Some
 returns-in-Some c = on_reads _ _ _ _ _ _ _ _ _ c.in-Some.ensures c.interface_declaration.ensures
 
-pub returns-in-Some-soft_keyword : goal.returns-in-Some-soft_keyword
-returns-in-Some-soft_keyword c = on_skips _ _ _ _ _ _ _ _ c.in-None.ensures (on_reads _ _ _ _ _ _ _ _ _ c.in-Some-soft_keyword.ensures c.enum_rest.ensures)
+pub returns-in-Some-take_soft_keyword : goal.returns-in-Some-take_soft_keyword
+returns-in-Some-take_soft_keyword c = on_skips _ _ _ _ _ _ _ _ c.in-None.ensures (on_reads _ _ _ _ _ _ _ _ _ c.in-Some-take_soft_keyword.ensures c.enum_rest.ensures)
 
-pub returns-in-Some-soft_keyword-2 : goal.returns-in-Some-soft_keyword-2
-returns-in-Some-soft_keyword-2 c = on_skips _ _ _ _ _ _ _ _ c.in-None.ensures (on_skips _ _ _ _ _ _ _ _ c.in-None-soft_keyword.ensures (on_reads _ _ _ _ _ _ _ _ _ c.in-Some-soft_keyword-2.ensures c.constant_declaration.ensures))
+pub returns-in-Some-take_soft_keyword-2 : goal.returns-in-Some-take_soft_keyword-2
+returns-in-Some-take_soft_keyword-2 c = on_skips _ _ _ _ _ _ _ _ c.in-None.ensures (on_skips _ _ _ _ _ _ _ _ c.in-None-take_soft_keyword.ensures (on_reads _ _ _ _ _ _ _ _ _ c.in-Some-take_soft_keyword-2.ensures c.constant_declaration.ensures))
 
-pub returns-in-None-soft_keyword-2 : goal.returns-in-None-soft_keyword-2
-returns-in-None-soft_keyword-2 c = on_skips _ _ _ _ _ _ _ _ c.in-None.ensures (on_skips _ _ _ _ _ _ _ _ c.in-None-soft_keyword.ensures (on_skips _ _ _ _ _ _ _ _ c.in-None-soft_keyword-2.ensures c.class_or_function.ensures))
+pub returns-in-None-take_soft_keyword-2 : goal.returns-in-None-take_soft_keyword-2
+returns-in-None-take_soft_keyword-2 c = on_skips _ _ _ _ _ _ _ _ c.in-None.ensures (on_skips _ _ _ _ _ _ _ _ c.in-None-take_soft_keyword.ensures (on_skips _ _ _ _ _ _ _ _ c.in-None-take_soft_keyword-2.ensures c.class_or_function.ensures))

@@ -7,11 +7,11 @@ use Rattle.kt_parser_steps.proofs.Optional.{so_made}
 pub returns-in-Some : goal.returns-in-Some
 returns-in-Some g c = on_reads _ _ _ _ _ _ _ _ _ c.in-Some.ensures c.string_rest.ensures
 
-pub returns-in-Some-keyword : goal.returns-in-Some-keyword
-returns-in-Some-keyword g c = on_passes _ _ _ _ _ _ c.in-None.ensures (on_gives _ _ _ _ _ _ _ c.in-Some-keyword.ensures (so_made _ _ _ c.this.ensures))
+pub returns-in-Some-take_keyword : goal.returns-in-Some-take_keyword
+returns-in-Some-take_keyword g c = on_passes _ _ _ _ _ _ c.in-None.ensures (on_gives _ _ _ _ _ _ _ c.in-Some-take_keyword.ensures (so_made _ _ _ c.this.ensures))
 
-pub returns-in_ok-name_of-in-Some-identifier : goal.returns-in_ok-name_of-in-Some-identifier
-returns-in_ok-name_of-in-Some-identifier g c = on_passes _ _ _ _ _ _ c.in-None.ensures (on_passes _ _ _ _ _ _ c.in-None-keyword.ensures (on_gives _ _ _ _ _ _ _ c.in-Some-identifier.ensures (so_made _ _ _ (c.name.ensures ∙ ap (λ (x : List ℕ). e.name c.in-Some-identifier.token.now.pos x) c.in_ok-name_of-in-Some-identifier.ensures))))
+pub returns-in_ok-name_of-in-Some-take_identifier : goal.returns-in_ok-name_of-in-Some-take_identifier
+returns-in_ok-name_of-in-Some-take_identifier g c = on_passes _ _ _ _ _ _ c.in-None.ensures (on_passes _ _ _ _ _ _ c.in-None-take_keyword.ensures (on_gives _ _ _ _ _ _ _ c.in-Some-take_identifier.ensures (so_made _ _ _ (c.name.ensures ∙ ap (λ (x : List ℕ). e.name c.in-Some-take_identifier.token.now.pos x) c.in_ok-name_of-in-Some-take_identifier.ensures))))
 
-pub returns-in-None-identifier : goal.returns-in-None-identifier
-returns-in-None-identifier g c = on_skips _ _ _ _ _ _ _ _ c.in-None.ensures (on_skips _ _ _ _ _ _ _ _ c.in-None-keyword.ensures (on_skips _ _ _ _ _ _ _ _ c.in-None-identifier.ensures c.literal_atom.ensures))
+pub returns-in-None-take_identifier : goal.returns-in-None-take_identifier
+returns-in-None-take_identifier g c = on_skips _ _ _ _ _ _ _ _ c.in-None.ensures (on_skips _ _ _ _ _ _ _ _ c.in-None-take_keyword.ensures (on_skips _ _ _ _ _ _ _ _ c.in-None-take_identifier.ensures c.literal_atom.ensures))

@@ -8,4 +8,4 @@ pub returns-in-Some : goal.returns-in-Some
 returns-in-Some g c = reads_from _ _ _ (attempt_ok _ _ _ _ _ _ c.in-Some.ensures) _ _ c.local_rest.ensures
 
 pub returns-in-None : goal.returns-in-None
-returns-in-None g c = attempt_skips _ (found_token {A = Bool}) _ _ _ _ _ _ _ c.in-None.ensures c.unlocal.ensures
+returns-in-None g c = attempt_skips _ (found_token {A = Bool}) _ _ _ _ _ _ _ c.in-None.ensures c.loop_or_simple.ensures
