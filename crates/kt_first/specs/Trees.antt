@@ -92,7 +92,8 @@ has_modifiers m = m.is_override || m.is_open || m.is_abstract || m.is_suspend
 
 -- `fun main()`
 abbrev pub is_main : FunctionTree → Bool
-is_main f = is_named f.name (codes "main") && not (has_modifiers f.modifiers) && is_bare f.type_parameters f.parameters f.result
+is_main f = is_named f.name (codes "main") && not (has_modifiers f.modifiers)
+    && is_bare f.type_parameters f.parameters f.result
 
 -- a file whose one declaration is `main`
 abbrev pub program_of_file : List DeclarationTree → Option Program
@@ -101,7 +102,8 @@ program_of_file _ = None
 
 -- `fun`, a name, `(`, `)` and `{` stand first, with no line end before the brace
 abbrev pub begins_with_head : List Token → Bool
-begins_with_head (a ∷ b ∷ c ∷ d ∷ f ∷ ts) = is_keyword word.Fun a && is_identifier b && is_sign sign.OpenParenthesis c && is_sign sign.CloseParenthesis d && is_sign sign.OpenBrace f
+begins_with_head (a ∷ b ∷ c ∷ d ∷ f ∷ ts) = is_keyword word.Fun a && is_identifier b && is_sign sign.OpenParenthesis c
+    && is_sign sign.CloseParenthesis d && is_sign sign.OpenBrace f
 begins_with_head _ = false
 
 -- the text is this program of the first subset

@@ -15,7 +15,8 @@ const MOST_LEVELS: u32 = 101;
 
 /// Pushes the code of an expression that is printed.
 pub(crate) fn push_operand(operand: &Expression, code: &mut Vec<Plain>) -> Result<(), FirstErr>
-    ensures { Pushes result code.old.items code.new.items (option_map expression_code (trees.operand_of (expression_tree operand.now))) }
+    ensures { Pushes result code.old.items code.new.items
+        (option_map expression_code (trees.operand_of (expression_tree operand.now))) }
 {
     if operand.levels() <= MOST_LEVELS {
         push_expression(operand, code)
@@ -28,7 +29,8 @@ pub(crate) fn push_operand(operand: &Expression, code: &mut Vec<Plain>) -> Resul
 #[cycle(expressions)]
 #[tactic(auto, using(crate::proofs::Pushing::right_pushed))]
 fn push_expression(expression: &Expression, code: &mut Vec<Plain>) -> Result<(), FirstErr>
-    ensures { Pushes result code.old.items code.new.items (option_map expression_code (trees.expression_of (expression_tree expression.now))) }
+    ensures { Pushes result code.old.items code.new.items
+        (option_map expression_code (trees.expression_of (expression_tree expression.now))) }
 {
     match &expression.kind {
         ExpressionKind::Literal(Literal::Number(number)) => push_number(*number, code),
@@ -46,7 +48,8 @@ fn push_expression(expression: &Expression, code: &mut Vec<Plain>) -> Result<(),
 #[cycle(expressions)]
 #[tactic(auto, using(crate::proofs::Pushing::step_pushed))]
 fn push_right(right: &Expression, step: Plain, code: &mut Vec<Plain>) -> Result<(), FirstErr>
-    ensures { Pushes result code.old.items code.new.items (option_map (with_step step) (trees.expression_of (expression_tree right.now))) }
+    ensures { Pushes result code.old.items code.new.items
+        (option_map (with_step step) (trees.expression_of (expression_tree right.now))) }
 {
     push_expression(right, code)?;
     Ok(code.push(step)?)
@@ -54,7 +57,8 @@ fn push_right(right: &Expression, step: Plain, code: &mut Vec<Plain>) -> Result<
 
 /// Pushes a number.
 fn push_number(number: Number, code: &mut Vec<Plain>) -> Result<(), FirstErr>
-    ensures { Pushes result code.old.items code.new.items (option_map expression_code (trees.small_number number.value number.long)) }
+    ensures { Pushes result code.old.items code.new.items
+        (option_map expression_code (trees.small_number number.value number.long)) }
 {
     match number {
         Number {

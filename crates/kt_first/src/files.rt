@@ -27,7 +27,9 @@ pub(crate) fn program_code(
     tokens: &[Token],
     file: &FileTree,
 ) -> Result<Vec<Plain>, FirstErr>
-    ensures { Answers (λ code. code.items) result (if trees.begins_with_head tokens.now then few (option_map code_of (trees.program_of_file (file_tree file.now))) else None) }
+    ensures { Answers (λ code. code.items) result
+        (if trees.begins_with_head tokens.now
+        then few (option_map code_of (trees.program_of_file (file_tree file.now))) else None) }
 {
     if begins_with_head(tokens) {
         short_code(alloc, file)
@@ -38,7 +40,8 @@ pub(crate) fn program_code(
 
 /// The code of a file, where it has few steps.
 fn short_code(alloc: Global, file: &FileTree) -> Result<Vec<Plain>, FirstErr>
-    ensures { Answers (λ code. code.items) result (few (option_map code_of (trees.program_of_file (file_tree file.now)))) }
+    ensures { Answers (λ code. code.items) result
+        (few (option_map code_of (trees.program_of_file (file_tree file.now)))) }
 {
     let mut code = Vec::new(alloc);
     push_file(file.declarations.as_slice(), &mut code)?;
@@ -51,7 +54,8 @@ fn short_code(alloc: Global, file: &FileTree) -> Result<Vec<Plain>, FirstErr>
 
 /// Pushes the code of a file, whose one declaration is `main`.
 fn push_file(declarations: &[Declaration], code: &mut Vec<Plain>) -> Result<(), FirstErr>
-    ensures { Pushes result code.old.items code.new.items (option_map code_of (trees.program_of_file (map declaration_tree declarations.now))) }
+    ensures { Pushes result code.old.items code.new.items
+        (option_map code_of (trees.program_of_file (map declaration_tree declarations.now))) }
 {
     match declarations {
         [Declaration::Function(function)] if is_main(function) => push_body(&function.body, code),
@@ -61,7 +65,8 @@ fn push_file(declarations: &[Declaration], code: &mut Vec<Plain>) -> Result<(), 
 
 /// Pushes the code of a body.
 fn push_body(body: &Option<FunctionBody>, code: &mut Vec<Plain>) -> Result<(), FirstErr>
-    ensures { Pushes result code.old.items code.new.items (option_map code_of (trees.program_of_body (maybe_function_body body.now))) }
+    ensures { Pushes result code.old.items code.new.items
+        (option_map code_of (trees.program_of_body (maybe_function_body body.now))) }
 {
     match body {
         Some(FunctionBody::Braces(block)) => push_statements(block.statements.as_slice(), code),
@@ -71,7 +76,8 @@ fn push_body(body: &Option<FunctionBody>, code: &mut Vec<Plain>) -> Result<(), F
 
 /// Pushes the code of statements.
 fn push_statements(statements: &[Statement], code: &mut Vec<Plain>) -> Result<(), FirstErr>
-    ensures { Pushes result code.old.items code.new.items (option_map code_of (trees.program_of_statements (statements_of (map statement_tree statements.now)))) }
+    ensures { Pushes result code.old.items code.new.items
+        (option_map code_of (trees.program_of_statements (statements_of (map statement_tree statements.now)))) }
 {
     for statement in statements {
         push_statement(statement, code)?;
@@ -81,7 +87,8 @@ fn push_statements(statements: &[Statement], code: &mut Vec<Plain>) -> Result<()
 
 /// Pushes the code of a statement, which prints.
 fn push_statement(statement: &Statement, code: &mut Vec<Plain>) -> Result<(), FirstErr>
-    ensures { Pushes result code.old.items code.new.items (option_map print_code (trees.printed_by (statement_tree statement.now))) }
+    ensures { Pushes result code.old.items code.new.items
+        (option_map print_code (trees.printed_by (statement_tree statement.now))) }
 {
     match &statement.kind {
         StatementKind::Evaluate(value) => push_print(value.get(), code),
@@ -92,7 +99,8 @@ fn push_statement(statement: &Statement, code: &mut Vec<Plain>) -> Result<(), Fi
 /// Pushes the code of a call of `println`.
 #[tactic(auto, using(crate::proofs::Pushing::step_pushed))]
 fn push_print(call: &Expression, code: &mut Vec<Plain>) -> Result<(), FirstErr>
-    ensures { Pushes result code.old.items code.new.items (option_map print_code (option_and_then trees.operand_of (trees.argument_of (expression_tree call.now)))) }
+    ensures { Pushes result code.old.items code.new.items
+        (option_map print_code (option_and_then trees.operand_of (trees.argument_of (expression_tree call.now)))) }
 {
     match argument_of(call) {
         Some(operand) => {
@@ -128,7 +136,8 @@ fn is_println(called: &Expression) -> bool
 /// The argument of a call that has one alone, and no type arguments.
 #[tactic(auto, using(crate::proofs::Arguments::several))]
 fn one_argument<'a>(types: &[TypeReference], arguments: &'a [Expression]) -> Option<&'a Expression>
-    ensures { option_map (λ a. expression_tree a.now) result ≡ trees.one_argument (map type_tree types.now) (expressions_of (map expression_tree arguments.now)) }
+    ensures { option_map (λ a. expression_tree a.now) result ≡ trees.one_argument (map type_tree types.now)
+        (expressions_of (map expression_tree arguments.now)) }
 {
     match types {
         [] => match arguments {
@@ -165,7 +174,8 @@ fn is_bare(
     parameters: &[Parameter],
     outcome: &Option<TypeReference>,
 ) -> bool
-    ensures { result ≡ trees.is_bare (map type_parameter_tree type_parameters.now) (map typed_parameter_tree parameters.now) (maybe_type outcome.now) }
+    ensures { result ≡ trees.is_bare (map type_parameter_tree type_parameters.now)
+        (map typed_parameter_tree parameters.now) (maybe_type outcome.now) }
 {
     match type_parameters {
         [] => match parameters {

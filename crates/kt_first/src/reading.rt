@@ -63,7 +63,8 @@ pub fn parse_first(alloc: Global, text: &[u8]) -> Result<Vec<Plain>, FirstErr>
     ensures read { IfOk result (λ code. (p : Program) × IsFirst text.now p × (code.items ≡ code_of p)) }
     ensures prints { IfOk result (λ code. (p : Program) → IsFirst text.now p → Prints code.items (values_of p)) }
     ensures short { IfOk result (λ code. length code.items ≤ 512) }
-    ensures only { (p : Program) → IsFirst text.now p → MatchResult result (λ code. code.items ≡ code_of p) (λ e. e ≡ first_err.NoMemory) }
+    ensures only { (p : Program) → IsFirst text.now p
+        → MatchResult result (λ code. code.items ≡ code_of p) (λ e. e ≡ first_err.NoMemory) }
 {
     if text.len() <= MOST_BYTES {
         let tokens = lex_bytes(alloc, text)?;

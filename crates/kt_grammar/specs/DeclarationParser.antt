@@ -32,19 +32,25 @@ abbrev pub any_type : Parser Token TypeTree
 any_type = type_parser most_levels
 
 abbrev pub type_parameter : Parser Token TypeParameterTree
-type_parameter = token is_identifier >>= (λ x. maybe (is_sign sign.Colon) any_type >>= (λ t. pure (record { name = name_of x; bound = t })))
+type_parameter = token is_identifier
+    >>= (λ x. maybe (is_sign sign.Colon) any_type >>= (λ t. pure (record { name = name_of x; bound = t })))
 
 abbrev pub type_parameters : Parser Token (List TypeParameterTree)
 type_parameters = on (is_sign sign.Less) (λ _. commas (is_sign sign.Greater) type_parameter) (pure [])
 
 abbrev pub typed_parameter : Parser Token TypedParameterTree
-typed_parameter = token is_identifier >>= (λ x. expect sign.Colon >> (any_type >>= (λ t. pure (record { name = name_of x; annotation = t }))))
+typed_parameter = token is_identifier
+    >>= (λ x. expect sign.Colon >> (any_type >>= (λ t. pure (record { name = name_of x; annotation = t }))))
 
 -- one modifier more, where it doesn't stand yet, else the other
-abbrev pub modifier : {M B : Type 0} → SoftKeyword → (M → Bool) → (M → M) → Modified M → Parser Token (Modified M ⊎ B) → Parser Token (Modified M ⊎ B)
-modifier w stands add m other = on_if (not (stands m.modifiers)) (is_soft_keyword w) (λ t. pure (inl (record { start = first_place m.start t; modifiers = add m.modifiers }))) other
+abbrev pub modifier : {M B : Type 0} → SoftKeyword → (M → Bool) → (M → M) → Modified M → Parser Token (Modified M ⊎ B)
+    → Parser Token (Modified M ⊎ B)
+modifier w stands add m other =
+    on_if (not (stands m.modifiers)) (is_soft_keyword w)
+    (λ t. pure (inl (record { start = first_place m.start t; modifiers = add m.modifiers }))) other
 
-abbrev pub function_turn : Modified FunctionModifiers → Parser Token (Modified FunctionModifiers ⊎ (Pos × FunctionModifiers))
+abbrev pub function_turn : Modified FunctionModifiers
+    → Parser Token (Modified FunctionModifiers ⊎ (Pos × FunctionModifiers))
 function_turn m = modifier soft.Override (λ f. f.is_override) (λ f. record f { is_override = true }) m
     (modifier soft.Open (λ f. f.is_open) (λ f. record f { is_open = true }) m
     (modifier soft.Abstract (λ f. f.is_abstract) (λ f. record f { is_abstract = true }) m
@@ -52,10 +58,13 @@ function_turn m = modifier soft.Override (λ f. f.is_override) (λ f. record f {
     (token (is_keyword word.Fun) >>= (λ t. pure (inr (start_of m.start t, m.modifiers)))))))
 
 abbrev pub fun_word : Parser Token (Pos × FunctionModifiers)
-fun_word = repeat function_turn (record { start = None; modifiers = record { is_override = false; is_open = false; is_abstract = false; is_suspend = false } })
+fun_word = repeat function_turn
+    (record { start = None; modifiers =
+    record { is_override = false; is_open = false; is_abstract = false; is_suspend = false } })
 
 abbrev pub typed_body : Bool → Parser Token FunctionBodyTree → Parser Token FunctionBodyTree
-typed_body typed other = on_if typed (is_sign sign.Assign) (λ _. lines >> (top.disjunction outside >>= (λ a. pure (d.result a)))) other
+typed_body typed other =
+    on_if typed (is_sign sign.Assign) (λ _. lines >> (top.disjunction outside >>= (λ a. pure (d.result a)))) other
 
 abbrev pub function_body : Bool → Parser Token FunctionBodyTree
 function_body typed = typed_body typed (lines >> (block_of (top.statement outside) >>= (λ b. pure (d.braces b))))
@@ -69,32 +78,51 @@ generic_if true = type_parameters
 generic_if false = pure []
 
 abbrev pub function_parser : Scope → Parser Token FunctionTree
-function_parser scope = fun_word >>= (λ m. generic_if (may_be_generic scope) >>= (λ ts. token is_identifier >>= (λ x. expect sign.OpenParenthesis >> (maybe_commas (is_sign sign.CloseParenthesis) typed_parameter >>= (λ ps.
-    maybe (is_sign sign.Colon) any_type >>= (λ r. body_if (has_body scope m.1) (is_some r) >>= (λ b. pure (record { at = m.0; modifiers = m.1; type_parameters = ts; name = name_of x; parameters = ps; result = r; body = b }))))))))
+function_parser scope = fun_word
+    >>= (λ m. generic_if (may_be_generic scope)
+    >>= (λ ts. token is_identifier
+    >>= (λ x. expect sign.OpenParenthesis >> (maybe_commas (is_sign sign.CloseParenthesis) typed_parameter >>= (λ ps.
+    maybe (is_sign sign.Colon) any_type
+        >>= (λ r. body_if (has_body scope m.1) (is_some r)
+        >>= (λ b. pure (record
+        { at = m.0; modifiers = m.1; type_parameters = ts; name = name_of x; parameters = ps; result = r; body =
+        b }))))))))
 
 abbrev pub constructor_parameter : Parser Token ConstructorParameterTree
-constructor_parameter = attempt (meant kind_of) (λ k. pure k.1) (pure parameter.Plain) >>= (λ k. typed_parameter >>= (λ p. pure (record { kind = k; name = p.name; annotation = p.annotation })))
+constructor_parameter = attempt (meant kind_of) (λ k. pure k.1) (pure parameter.Plain)
+    >>= (λ k. typed_parameter >>= (λ p. pure (record { kind = k; name = p.name; annotation = p.annotation })))
 
 abbrev pub constructor_parameters : Parser Token (List ConstructorParameterTree)
-constructor_parameters = on (is_sign sign.OpenParenthesis) (λ _. maybe_commas (is_sign sign.CloseParenthesis) constructor_parameter) (pure [])
+constructor_parameters =
+    on (is_sign sign.OpenParenthesis) (λ _. maybe_commas (is_sign sign.CloseParenthesis) constructor_parameter)
+    (pure [])
 
 abbrev pub parent : Parser Token TypeTree
 parent = named_type true (type_parser 199)
 
 abbrev pub supertype : Parser Token SupertypeTree
-supertype = parent >>= (λ t. on (is_sign sign.OpenParenthesis) (λ open_. maybe_commas (is_sign sign.CloseParenthesis) (top.disjunction outside) >>= (λ es. pure (Some (record { at = arguments_at open_ es; values = es })))) (pure None) >>= (λ as'. pure (record { parent = t; arguments = as' })))
+supertype = parent >>= (λ t. on (is_sign sign.OpenParenthesis)
+    (λ open_. maybe_commas (is_sign sign.CloseParenthesis) (top.disjunction outside)
+    >>= (λ es. pure (Some (record { at = arguments_at open_ es; values = es })))) (pure None)
+    >>= (λ as'. pure (record { parent = t; arguments = as' })))
 
 abbrev pub supertypes : {A : Type 0} → Parser Token A → Parser Token (List A)
 supertypes super = on (is_sign sign.Colon) (λ _. lines >> several_items (pure tt) super) (pure [])
 
 abbrev pub members : {A : Type 0} → Parser Token A → Parser Token (List A)
-members item = attempt (lines >> expect sign.OpenBrace) (λ _. separated (is_sign sign.CloseBrace) item >>= (λ ms. pure ms.0)) (pure [])
+members item = attempt (lines >> expect sign.OpenBrace)
+    (λ _. separated (is_sign sign.CloseBrace) item >>= (λ ms. pure ms.0)) (pure [])
 
 abbrev pub property_rest : Token × Bool → Parser Token PropertyTree
-property_rest var = typed_parameter >>= (λ p. expect sign.Assign >> (lines >> (top.disjunction outside >>= (λ a. pure (record { at = var.0.pos; is_variable = var.1; name = p.name; annotation = p.annotation; initializer = a })))))
+property_rest var = typed_parameter
+    >>= (λ p. expect sign.Assign
+    >> (lines >> (top.disjunction outside
+    >>= (λ a. pure (record
+    { at = var.0.pos; is_variable = var.1; name = p.name; annotation = p.annotation; initializer = a })))))
 
 abbrev pub member : Parser Token MemberTree
-member = attempt (meant variable_of) (λ var. property_rest var >>= (λ p. pure (d.property p))) (function_parser in_class >>= (λ f. pure (d.method f)))
+member = attempt (meant variable_of) (λ var. property_rest var >>= (λ p. pure (d.property p)))
+    (function_parser in_class >>= (λ f. pure (d.method f)))
 
 abbrev pub class_turn : Modified ClassModifiers → Parser Token (Modified ClassModifiers ⊎ (Pos × ClassModifiers))
 class_turn m = modifier soft.Open (λ c. c.is_open) (λ c. record c { is_open = true }) m
@@ -103,38 +131,55 @@ class_turn m = modifier soft.Open (λ c. c.is_open) (λ c. record c { is_open = 
     (token (is_keyword word.Class) >>= (λ t. pure (inr (start_of m.start t, m.modifiers))))))
 
 abbrev pub class_word : Parser Token (Pos × ClassModifiers)
-class_word = repeat class_turn (record { start = None; modifiers = record { is_open = false; is_abstract = false; is_data = false } })
+class_word = repeat class_turn
+    (record { start = None; modifiers = record { is_open = false; is_abstract = false; is_data = false } })
 
 -- behind 'class'
 abbrev pub class_rest : Pos × ClassModifiers → Parser Token ClassTree
-class_rest m = token is_identifier >>= (λ x. type_parameters >>= (λ ts. constructor_parameters >>= (λ ps. supertypes supertype >>= (λ ss. members member >>= (λ ms.
-    pure (record { at = m.0; modifiers = m.1; name = name_of x; type_parameters = ts; parameters = ps; supertypes = ss; members = ms }))))))
+class_rest m = token is_identifier
+    >>= (λ x. type_parameters
+    >>= (λ ts. constructor_parameters >>= (λ ps. supertypes supertype >>= (λ ss. members member >>= (λ ms.
+    pure (record { at = m.0; modifiers = m.1; name = name_of x; type_parameters = ts; parameters = ps; supertypes =
+        ss; members = ms }))))))
 
 abbrev pub interface_rest : Token → Parser Token InterfaceTree
-interface_rest t = token is_identifier >>= (λ x. type_parameters >>= (λ ts. supertypes parent >>= (λ ss. members (function_parser in_interface) >>= (λ fs.
+interface_rest t = token is_identifier
+    >>= (λ x. type_parameters >>= (λ ts. supertypes parent >>= (λ ss. members (function_parser in_interface) >>= (λ fs.
     pure (record { at = t.pos; name = name_of x; type_parameters = ts; supertypes = ss; functions = fs })))))
 
 abbrev pub enum_entry : Parser Token EnumEntry
 enum_entry = token is_identifier >>= (λ t. pure (record { at = t.pos; name = name_of t }))
 
 abbrev pub enum_rest : Token → Parser Token DeclarationTree
-enum_rest t = token (is_keyword word.Class) >> (token is_identifier >>= (λ x. lines >> (expect sign.OpenBrace >> (lines >> (several_items lines enum_entry >>= (λ es. lines >> (expect sign.CloseBrace >>
+enum_rest t = token (is_keyword word.Class)
+    >> (token is_identifier
+    >>= (λ x. lines >> (expect sign.OpenBrace
+    >> (lines >> (several_items lines enum_entry >>= (λ es. lines >> (expect sign.CloseBrace >>
     pure (d.enum (record { at = t.pos; name = name_of x; entries = es })))))))))
 
 abbrev pub text_turn : List TextPart → Parser Token (List TextPart ⊎ List TextPart)
-text_turn ps = attempt (meant text_of) (λ t. pure (inl (ps ++ t.1 ∷ []))) (token is_close_quote >>= (λ _. pure (inr ps)))
+text_turn ps = attempt (meant text_of) (λ t. pure (inl (ps ++ t.1 ∷ [])))
+    (token is_close_quote >>= (λ _. pure (inr ps)))
 
 abbrev pub constant_value : Parser Token ConstantValue
-constant_value = on is_open_quote (λ _. repeat text_turn [] >>= (λ ps. pure (value.Text ps))) (on (is_sign sign.Minus) (λ _. pure true) (pure false) >>= (λ minus. meant literal_of >>= (λ l. pure (value.Literal minus l.1))))
+constant_value = on is_open_quote (λ _. repeat text_turn [] >>= (λ ps. pure (value.Text ps)))
+    (on (is_sign sign.Minus) (λ _. pure true) (pure false)
+    >>= (λ minus. meant literal_of >>= (λ l. pure (value.Literal minus l.1))))
 
 abbrev pub constant_rest : Token → Parser Token ConstantTree
-constant_rest t = token (is_keyword word.Val) >> (token is_identifier >>= (λ x. maybe (is_sign sign.Colon) any_type >>= (λ a. expect sign.Assign >> (lines >> (constant_value >>= (λ v.
+constant_rest t = token (is_keyword word.Val)
+    >> (token is_identifier
+    >>= (λ x. maybe (is_sign sign.Colon) any_type >>= (λ a. expect sign.Assign >> (lines >> (constant_value >>= (λ v.
     pure (record { at = t.pos; name = name_of x; annotation = a; value = v })))))))
 
 -- a function and a class may begin with the same modifiers
 abbrev pub declaration_parser : Parser Token DeclarationTree
-declaration_parser = on (is_keyword word.Interface) (λ t. interface_rest t >>= (λ i. pure (d.interface i))) (on (is_soft_keyword soft.Enum) enum_rest (on (is_soft_keyword soft.Const) (λ t. constant_rest t >>= (λ c. pure (d.constant c)))
-    (attempt class_word (λ m. class_rest m >>= (λ c. pure (d.class c))) (function_parser at_top >>= (λ f. pure (d.function f))))))
+declaration_parser =
+    on (is_keyword word.Interface) (λ t. interface_rest t >>= (λ i. pure (d.interface i)))
+    (on (is_soft_keyword soft.Enum) enum_rest
+    (on (is_soft_keyword soft.Const) (λ t. constant_rest t >>= (λ c. pure (d.constant c)))
+    (attempt class_word (λ m. class_rest m >>= (λ c. pure (d.class c)))
+        (function_parser at_top >>= (λ f. pure (d.function f))))))
 
 unfoldable pub file_parser : Parser Token (List DeclarationTree)
 file_parser = separated is_end declaration_parser >>= (λ ds. pure ds.0)

@@ -45,14 +45,18 @@ pub record Parsers : Type 0 where
 abbrev pub part_of : ℕ → Parser Token ExpressionTree → Parser Token PartTree
 part_of left expression = on_if (some_levels left) is_name_part (λ t. pure (e.name_part (name_of t)))
     (on_if (some_levels left) is_this_part (λ _. pure e.this_part)
-    (on_if (some_levels left) is_open_template (λ _. lines >> (expression >>= (λ a. lines >> (expect sign.CloseBrace >> pure (e.hole a)))))
+    (on_if (some_levels left) is_open_template
+        (λ _. lines >> (expression >>= (λ a. lines >> (expect sign.CloseBrace >> pure (e.hole a)))))
     (meant text_of >>= (λ t. pure (e.text t.1)))))
 
 abbrev pub parameter_of : ℕ → Parser Token ParameterTree
-parameter_of room = token is_identifier >>= (λ x. maybe (is_sign sign.Colon) (type_parser room) >>= (λ t. pure (record { name = name_of x; annotation = t })))
+parameter_of room = token is_identifier
+    >>= (λ x. maybe (is_sign sign.Colon) (type_parser room)
+    >>= (λ t. pure (record { name = name_of x; annotation = t })))
 
 abbrev pub block_rest : Parser Token StatementTree → Parser Token BlockTree
-block_rest statement = separated (is_sign sign.CloseBrace) statement >>= (λ b. pure (e.block (statements_of b.0) b.1.pos))
+block_rest statement = separated (is_sign sign.CloseBrace) statement
+    >>= (λ b. pure (e.block (statements_of b.0) b.1.pos))
 
 abbrev pub block_of : Parser Token StatementTree → Parser Token BlockTree
 block_of statement = expect sign.OpenBrace >> block_rest statement
@@ -79,38 +83,51 @@ module _ (room : ℕ) (below : Parsers) (at : Context) where
   next_part (p ∷ ps) = part_if (nat_le (parts_levels (parts_of (p ∷ ps)) + 2) room)
 
   abbrev pub part_turn : Pos → List PartTree → Parser Token (List PartTree ⊎ ExpressionTree)
-  part_turn start ps = on is_close_quote (λ _. pure (inr (e.template start (parts_of ps)))) (next_part ps >>= (λ p. pure (inl (ps ++ p ∷ []))))
+  part_turn start ps =
+      on is_close_quote (λ _. pure (inr (e.template start (parts_of ps))))
+      (next_part ps >>= (λ p. pure (inl (ps ++ p ∷ []))))
 
   abbrev pub lambda_head : Parser Token (List ParameterTree)
   lambda_head = several_items (pure tt) below.parameter >>= (λ ps. lines >> (expect sign.Arrow >> pure ps))
 
   abbrev pub lambda_rest : Token → Parser Token ExpressionTree
-  lambda_rest t = lines >> (attempt_if deep lambda_head (λ ps. pure ps) (pure []) >>= (λ ps. block_rest (below.statement in_lambda) >>= (λ b. pure (e.lambda t.pos (e.lambda_of ps b)))))
+  lambda_rest t = lines
+      >> (attempt_if deep lambda_head (λ ps. pure ps) (pure [])
+      >>= (λ ps. block_rest (below.statement in_lambda) >>= (λ b. pure (e.lambda t.pos (e.lambda_of ps b)))))
 
   abbrev pub lambda_parser : Parser Token ExpressionTree
   lambda_parser = expect sign.OpenBrace >>= lambda_rest
 
   abbrev pub else_word : Parser Token (Unit {0})
-  else_word = on (is_sign sign.Semicolon) (λ _. lines >> token (is_keyword word.Else)) (lines >> token (is_keyword word.Else)) >> (lines >> ahead is_no_arrow)
+  else_word = on (is_sign sign.Semicolon) (λ _. lines >> token (is_keyword word.Else))
+      (lines >> token (is_keyword word.Else)) >> (lines >> ahead is_no_arrow)
 
   abbrev pub if_rest : Token → Parser Token ExpressionTree
-  if_rest t = expect sign.OpenParenthesis >> (below.disjunction at >>= (λ a. expect sign.CloseParenthesis >> (lines >> (below.body at >>= (λ b.
-      attempt else_word (λ _. below.body at >>= (λ c. pure (e.if_else t.pos a b (e.some_body c)))) (pure (e.if_else t.pos a b e.no_body)))))))
+  if_rest t = expect sign.OpenParenthesis
+      >> (below.disjunction at >>= (λ a. expect sign.CloseParenthesis >> (lines >> (below.body at >>= (λ b.
+      attempt else_word (λ _. below.body at >>= (λ c. pure (e.if_else t.pos a b (e.some_body c))))
+          (pure (e.if_else t.pos a b e.no_body)))))))
 
   abbrev pub subject : Parser Token (Option ExpressionTree)
-  subject = on_if deep (is_sign sign.OpenParenthesis) (λ _. below.disjunction at >>= (λ a. expect sign.CloseParenthesis >> pure (Some a))) (pure None)
+  subject = on_if deep (is_sign sign.OpenParenthesis)
+      (λ _. below.disjunction at >>= (λ a. expect sign.CloseParenthesis >> pure (Some a))) (pure None)
 
   abbrev pub when_rest : Token → Parser Token ExpressionTree
-  when_rest t = subject >>= (λ a. lines >> (expect sign.OpenBrace >> (separated (is_sign sign.CloseBrace) (below.entry at (is_some a)) >>= (λ es. pure (e.when t.pos (maybe_expression a) (entries_of es.0))))))
+  when_rest t = subject
+      >>= (λ a. lines >> (expect sign.OpenBrace
+      >> (separated (is_sign sign.CloseBrace) (below.entry at (is_some a))
+      >>= (λ es. pure (e.when t.pos (maybe_expression a) (entries_of es.0))))))
 
   abbrev pub catch_head : Parser Token Token
-  catch_head = lines >> (token (is_soft_keyword soft.Catch) >> (expect sign.OpenParenthesis >> (token is_identifier >>= (λ x. expect sign.Colon >> pure x))))
+  catch_head = lines >> (token (is_soft_keyword soft.Catch)
+      >> (expect sign.OpenParenthesis >> (token is_identifier >>= (λ x. expect sign.Colon >> pure x))))
 
   abbrev pub finally_head : Parser Token Token
   finally_head = lines >> (token (is_soft_keyword soft.Finally) >> (lines >> expect sign.OpenBrace))
 
   abbrev pub catch_turn : List CatchTree → Parser Token (List CatchTree ⊎ List CatchTree)
-  catch_turn cs = attempt_if deep catch_head (λ x. below.catch at (name_of x) >>= (λ c. pure (inl (cs ++ c ∷ [])))) (pure (inr cs))
+  catch_turn cs = attempt_if deep catch_head (λ x. below.catch at (name_of x) >>= (λ c. pure (inl (cs ++ c ∷ []))))
+      (pure (inr cs))
 
   abbrev pub no_finally : Pos → BlockTree → List CatchTree → Parser Token ExpressionTree
   no_finally start b [] = refuse
@@ -118,13 +135,18 @@ module _ (room : ℕ) (below : Parsers) (at : Context) where
 
   abbrev pub try_rest : Token → Parser Token ExpressionTree
   try_rest t = lines >> (block_of (below.statement at) >>= (λ b. repeat catch_turn [] >>= (λ cs.
-      attempt finally_head (λ _. block_rest (below.statement at) >>= (λ f. pure (e.try_catch t.pos b (catches_of cs) (e.some_block f)))) (no_finally t.pos b cs))))
+      attempt finally_head
+          (λ _. block_rest (below.statement at) >>= (λ f. pure (e.try_catch t.pos b (catches_of cs) (e.some_block f))))
+          (no_finally t.pos b cs))))
 
   abbrev pub primary : Parser Token ExpressionTree
-  primary = on_if deep (is_sign sign.OpenParenthesis) (λ t. below.disjunction at >>= (λ a. expect sign.CloseParenthesis >> pure (e.parenthesized t.pos a)))
+  primary = on_if deep (is_sign sign.OpenParenthesis)
+      (λ t. below.disjunction at >>= (λ a. expect sign.CloseParenthesis >> pure (e.parenthesized t.pos a)))
       (on_if deep (is_keyword word.If) if_rest
       (on_if deep (is_keyword word.Throw) (λ t. below.disjunction at >>= (λ a. pure (e.throw t.pos a)))
-      (on_if (not at.in_lambda) (is_keyword word.Return) (λ t. attempt_if deep (below.disjunction at) (λ a. pure (e.return t.pos (e.some_expression a))) (pure (e.return t.pos e.no_expression)))
+      (on_if (not at.in_lambda) (is_keyword word.Return)
+          (λ t. attempt_if deep (below.disjunction at) (λ a. pure (e.return t.pos (e.some_expression a)))
+          (pure (e.return t.pos e.no_expression)))
       (on_if at.in_loop (is_keyword word.Break) (λ t. pure (e.break t.pos))
       (on_if at.in_loop (is_keyword word.Continue) (λ t. pure (e.continue t.pos))
       (on (is_sign sign.OpenBrace) lambda_rest
@@ -137,23 +159,29 @@ module _ (room : ℕ) (below : Parsers) (at : Context) where
 
   -- behind '('
   abbrev pub arguments_rest : Parser Token (List ExpressionTree)
-  arguments_rest = maybe_commas (is_sign sign.CloseParenthesis) (below.disjunction at) >>= (λ es. attempt_if deep (below.lambda at) (λ l. pure (es ++ l ∷ [])) (pure es))
+  arguments_rest = maybe_commas (is_sign sign.CloseParenthesis) (below.disjunction at)
+      >>= (λ es. attempt_if deep (below.lambda at) (λ l. pure (es ++ l ∷ [])) (pure es))
 
   -- a call behind its type arguments
   abbrev pub call_parser : Parser Token (List ExpressionTree)
   call_parser = on (is_sign sign.OpenParenthesis) (λ _. arguments_rest) (below.lambda at >>= (λ l. pure (l ∷ [])))
 
   abbrev pub member : ExpressionTree → Parser Token ExpressionTree
-  member a = lines >> (meant member_of >>= (λ safe. lines >> (token is_identifier >>= (λ x. pure (e.member (place a) a safe.1 (name_of x))))))
+  member a = lines >> (meant member_of
+      >>= (λ safe. lines >> (token is_identifier >>= (λ x. pure (e.member (place a) a safe.1 (name_of x))))))
 
   abbrev pub suffix : ExpressionTree → Parser Token ExpressionTree
-  suffix a = on (is_sign sign.NotNull) (λ _. pure (e.not_null (place a) a)) (on_if deep (is_sign sign.OpenBracket) (λ _. below.disjunction at >>= (λ i. expect sign.CloseBracket >> pure (e.index (place a) a i))) (member a))
+  suffix a = on (is_sign sign.NotNull) (λ _. pure (e.not_null (place a) a))
+      (on_if deep (is_sign sign.OpenBracket)
+      (λ _. below.disjunction at >>= (λ i. expect sign.CloseBracket >> pure (e.index (place a) a i))) (member a))
 
   abbrev pub type_arguments_of_call : Parser Token (List TypeTree)
-  type_arguments_of_call = type_arguments (type_parser room) >>= (λ ts. ahead (either (is_sign sign.OpenParenthesis) (is_sign sign.OpenBrace)) >> pure ts)
+  type_arguments_of_call = type_arguments (type_parser room)
+      >>= (λ ts. ahead (either (is_sign sign.OpenParenthesis) (is_sign sign.OpenBrace)) >> pure ts)
 
   abbrev pub suffix_turn : ExpressionTree → Parser Token (ExpressionTree ⊎ ExpressionTree)
-  suffix_turn a = attempt_if (ends_in_name a) type_arguments_of_call (λ ts. call_parser >>= (λ es. pure (inl (called a ts es))))
+  suffix_turn a = attempt_if (ends_in_name a) type_arguments_of_call
+      (λ ts. call_parser >>= (λ es. pure (inl (called a ts es))))
       (attempt_if (has_call a) call_parser (λ es. pure (inl (called a [] es)))
       (attempt_if (has_more a) (suffix a) (λ c. pure (inl c)) (pure (inr a))))
 
@@ -161,10 +189,12 @@ module _ (room : ℕ) (below : Parsers) (at : Context) where
   postfix = primary >>= (λ a. repeat suffix_turn a)
 
   abbrev pub prefix_parser : Parser Token ExpressionTree
-  prefix_parser = attempt_if deep (meant prefix_of) (λ o. below.prefix at >>= (λ a. pure (e.prefix o.0.pos o.1 a))) postfix
+  prefix_parser = attempt_if deep (meant prefix_of) (λ o. below.prefix at >>= (λ a. pure (e.prefix o.0.pos o.1 a)))
+      postfix
 
   abbrev pub cast_turn : ExpressionTree → Parser Token (ExpressionTree ⊎ ExpressionTree)
-  cast_turn a = attempt_if (has_more a) (meant cast_of) (λ safe. lines >> (type_parser room >>= (λ t. pure (inl (e.cast (place a) a safe.1 t))))) (pure (inr a))
+  cast_turn a = attempt_if (has_more a) (meant cast_of)
+      (λ safe. lines >> (type_parser room >>= (λ t. pure (inl (e.cast (place a) a safe.1 t))))) (pure (inr a))
 
   abbrev pub cast_parser : Parser Token ExpressionTree
   cast_parser = prefix_parser >>= (λ a. repeat cast_turn a)
@@ -185,16 +215,22 @@ module _ (room : ℕ) (below : Parsers) (at : Context) where
   elvis_parser = chain has_more infix_parser (lines >> meant elvis_of) is_new_line (below.infixed at) build
 
   abbrev pub test_parser : Parser Token ExpressionTree
-  test_parser = elvis_parser >>= (λ a. attempt_if (has_more a) (meant type_check_of) (λ not. lines >> (type_parser room >>= (λ t. pure (e.type_check (place a) a not.1 t)))) (pure a))
+  test_parser = elvis_parser
+      >>= (λ a. attempt_if (has_more a) (meant type_check_of)
+      (λ not. lines >> (type_parser room >>= (λ t. pure (e.type_check (place a) a not.1 t)))) (pure a))
 
   abbrev pub comparison_parser : Parser Token ExpressionTree
-  comparison_parser = test_parser >>= (λ a. attempt_if (has_more a) (meant comparison_of) (λ o. lines >> (below.test at >>= (λ b. pure (build o a b)))) (pure a))
+  comparison_parser = test_parser
+      >>= (λ a. attempt_if (has_more a) (meant comparison_of)
+      (λ o. lines >> (below.test at >>= (λ b. pure (build o a b)))) (pure a))
 
   abbrev pub equality_parser : Parser Token ExpressionTree
   equality_parser = chain has_more comparison_parser (meant equality_of) is_new_line (below.comparison at) build
 
   abbrev pub conjunction_parser : Parser Token ExpressionTree
-  conjunction_parser = chain has_more equality_parser (lines >> meant conjunction_of) is_new_line (below.equality at) build
+  conjunction_parser =
+      chain has_more equality_parser (lines >> meant conjunction_of) is_new_line (below.equality at) build
 
   abbrev pub disjunction_parser : Parser Token ExpressionTree
-  disjunction_parser = chain has_more conjunction_parser (lines >> meant disjunction_of) is_new_line (below.conjunction at) build
+  disjunction_parser =
+      chain has_more conjunction_parser (lines >> meant disjunction_of) is_new_line (below.conjunction at) build

@@ -24,21 +24,27 @@ use Rattle.kt_grammar.specs.declared.context.Context.{Context}
 
 -- a part of a string, where so many levels are left for what it holds
 -- part : '$' ID | '$' 'this' | '${' n expr n '}' | text
-abbrev pub IsPart : ℕ → (ExpressionTree → List Token → List Token → Type 0) → PartTree → List Token → List Token → Type 0
-IsPart left Expression = Either (If (some_levels left) (Seq (IsToken is_name_part) (λ t. Gives (e.name_part (name_of t)))) Empty)
+abbrev pub IsPart : ℕ → (ExpressionTree → List Token → List Token → Type 0) → PartTree → List Token → List Token
+    → Type 0
+IsPart left Expression =
+    Either (If (some_levels left) (Seq (IsToken is_name_part) (λ t. Gives (e.name_part (name_of t)))) Empty)
     (Either (If (some_levels left) (Seq (IsToken is_this_part) (λ _. Gives e.this_part)) Empty)
-    (Either (Seq (IsToken is_open_template) (λ _. Seq (IsPast Expression) (λ a. Seq (IsPast (IsSign sign.CloseBrace)) (λ _. Gives (e.hole a)))))
+    (Either (Seq (IsToken is_open_template)
+        (λ _. Seq (IsPast Expression) (λ a. Seq (IsPast (IsSign sign.CloseBrace)) (λ _. Gives (e.hole a)))))
     (Seq (IsMeant text_of) (λ t. Gives (e.text t.1)))))
 
 -- ---- lambda literals
 
 -- lparam : ID (':' type)?
 abbrev pub IsParameter : ℕ → ParameterTree → List Token → List Token → Type 0
-IsParameter room = Seq IsIdentifier (λ x. Seq (Maybe (is_sign sign.Colon) (IsType room)) (λ t. Gives (record { name = name_of x; annotation = t })))
+IsParameter room = Seq IsIdentifier
+    (λ x. Seq (Maybe (is_sign sign.Colon) (IsType room)) (λ t. Gives (record { name = name_of x; annotation = t })))
 
 -- block : '{' sep? (stmt (sep stmt)*)? sep? '}', behind its '{'
-abbrev pub IsBlockRest : (StatementTree → List Token → List Token → Type 0) → BlockTree → List Token → List Token → Type 0
-IsBlockRest Statement = Seq (Items (is_sign sign.CloseBrace) Statement) (λ b. Gives (e.block (statements_of b.0) b.1.pos))
+abbrev pub IsBlockRest : (StatementTree → List Token → List Token → Type 0) → BlockTree → List Token → List Token
+    → Type 0
+IsBlockRest Statement =
+    Seq (Items (is_sign sign.CloseBrace) Statement) (λ b. Gives (e.block (statements_of b.0) b.1.pos))
 
 abbrev pub IsBlock : (StatementTree → List Token → List Token → Type 0) → BlockTree → List Token → List Token → Type 0
 IsBlock Statement = Seq (IsSign sign.OpenBrace) (λ _. IsBlockRest Statement)
@@ -60,7 +66,8 @@ module _ (room : ℕ) (below : Phrases) (at : Context) where
   IsNextPart (p ∷ ps) = If (nat_le (parts_levels (parts_of (p ∷ ps)) + 2) room) (below.part at) Empty
 
   abbrev pub PartTurn : Pos → List PartTree → List PartTree ⊎ ExpressionTree → List Token → List Token → Type 0
-  PartTurn start ps = Either (Seq (IsToken is_close_quote) (λ _. Gives (inr (e.template start (parts_of ps))))) (Seq (IsNextPart ps) (λ p. Gives (inl (ps ++ p ∷ []))))
+  PartTurn start ps = Either (Seq (IsToken is_close_quote) (λ _. Gives (inr (e.template start (parts_of ps)))))
+      (Seq (IsNextPart ps) (λ p. Gives (inl (ps ++ p ∷ []))))
 
   -- string : '"' part* '"'
   abbrev pub IsString : ExpressionTree → List Token → List Token → Type 0
@@ -76,7 +83,8 @@ module _ (room : ℕ) (below : Phrases) (at : Context) where
 
   -- '(' expr ')'
   abbrev pub IsParenthesized : ExpressionTree → List Token → List Token → Type 0
-  IsParenthesized = Seq (IsSign sign.OpenParenthesis) (λ t. Seq (below.disjunction at) (λ a. Seq (IsSign sign.CloseParenthesis) (λ _. Gives (e.parenthesized t.pos a))))
+  IsParenthesized = Seq (IsSign sign.OpenParenthesis)
+      (λ t. Seq (below.disjunction at) (λ a. Seq (IsSign sign.CloseParenthesis) (λ _. Gives (e.parenthesized t.pos a))))
 
   -- lparam (',' n lparam)* n '->'
   abbrev pub IsLambdaHead : List ParameterTree → List Token → List Token → Type 0
@@ -84,37 +92,49 @@ module _ (room : ℕ) (below : Phrases) (at : Context) where
 
   -- lambda : '{' n (lparam (',' n lparam)* n '->')? sep? (stmt (sep stmt)*)? sep? '}'
   abbrev pub IsLambda : ExpressionTree → List Token → List Token → Type 0
-  IsLambda = Seq (IsSign sign.OpenBrace) (λ t. Seq IsLines (λ _. Seq (Where IsLambdaHead Gives (Gives [])) (λ ps. Seq (IsBlockRest (below.statement in_lambda)) (λ b. Gives (e.lambda t.pos (e.lambda_of ps b))))))
+  IsLambda = Seq (IsSign sign.OpenBrace)
+      (λ t. Seq IsLines (λ _. Seq (Where IsLambdaHead Gives (Gives []))
+      (λ ps. Seq (IsBlockRest (below.statement in_lambda)) (λ b. Gives (e.lambda t.pos (e.lambda_of ps b))))))
 
   -- ';'? n 'else' n
   -- An `else` with `->` behind it begins an entry of a `when`.
   abbrev pub IsElse : Unit {0} → List Token → List Token → Type 0
-  IsElse = Seq (Either (Seq (IsSign sign.Semicolon) (λ _. IsPast (IsKeyword word.Else))) (IsPast (IsKeyword word.Else))) (λ _. IsPast (IsAhead is_no_arrow))
+  IsElse = Seq (Either (Seq (IsSign sign.Semicolon) (λ _. IsPast (IsKeyword word.Else)))
+      (IsPast (IsKeyword word.Else))) (λ _. IsPast (IsAhead is_no_arrow))
 
   -- if : 'if' '(' expr ')' n body (';'? n 'else' n body)?
   -- An `else` belongs to the nearest `if`.
   abbrev pub IsIf : ExpressionTree → List Token → List Token → Type 0
-  IsIf = Seq (IsKeyword word.If) (λ t. Seq (IsSign sign.OpenParenthesis) (λ _. Seq (below.disjunction at) (λ a. Seq (IsSign sign.CloseParenthesis) (λ _. Seq (IsPast (below.body at)) (λ b.
-      Where IsElse (λ _. Seq (below.body at) (λ c. Gives (e.if_else t.pos a b (e.some_body c)))) (Gives (e.if_else t.pos a b e.no_body)))))))
+  IsIf = Seq (IsKeyword word.If)
+      (λ t. Seq (IsSign sign.OpenParenthesis)
+      (λ _. Seq (below.disjunction at) (λ a. Seq (IsSign sign.CloseParenthesis) (λ _. Seq (IsPast (below.body at)) (λ b.
+      Where IsElse (λ _. Seq (below.body at) (λ c. Gives (e.if_else t.pos a b (e.some_body c))))
+          (Gives (e.if_else t.pos a b e.no_body)))))))
 
   -- ('(' expr ')')?
   abbrev pub IsSubject : Option ExpressionTree → List Token → List Token → Type 0
-  IsSubject = WhereRoom (some_levels below.levels) (IsSign sign.OpenParenthesis) (λ _. Seq (below.disjunction at) (λ a. Seq (IsSign sign.CloseParenthesis) (λ _. Gives (Some a)))) (Gives None)
+  IsSubject = WhereRoom (some_levels below.levels) (IsSign sign.OpenParenthesis)
+      (λ _. Seq (below.disjunction at) (λ a. Seq (IsSign sign.CloseParenthesis) (λ _. Gives (Some a)))) (Gives None)
 
   -- when : 'when' ('(' expr ')')? n '{' sep? (entry (sep entry)*)? sep? '}'
   abbrev pub IsWhen : ExpressionTree → List Token → List Token → Type 0
-  IsWhen = Seq (IsKeyword word.When) (λ t. Seq IsSubject (λ a. Seq (IsPast (IsSign sign.OpenBrace)) (λ _. Seq (Items (is_sign sign.CloseBrace) (below.entry at (is_some a))) (λ es. Gives (e.when t.pos (maybe_expression a) (entries_of es.0))))))
+  IsWhen = Seq (IsKeyword word.When)
+      (λ t. Seq IsSubject (λ a. Seq (IsPast (IsSign sign.OpenBrace))
+      (λ _. Seq (Items (is_sign sign.CloseBrace) (below.entry at (is_some a)))
+      (λ es. Gives (e.when t.pos (maybe_expression a) (entries_of es.0))))))
 
   -- n 'catch' '(' ID ':'
   abbrev pub IsCatchHead : Token → List Token → List Token → Type 0
-  IsCatchHead = Seq (IsPast (IsSoftKeyword soft.Catch)) (λ _. Seq (IsSign sign.OpenParenthesis) (λ _. Seq IsIdentifier (λ x. Seq (IsSign sign.Colon) (λ _. Gives x))))
+  IsCatchHead = Seq (IsPast (IsSoftKeyword soft.Catch))
+      (λ _. Seq (IsSign sign.OpenParenthesis) (λ _. Seq IsIdentifier (λ x. Seq (IsSign sign.Colon) (λ _. Gives x))))
 
   -- n 'finally' n '{'
   abbrev pub IsFinallyHead : Token → List Token → List Token → Type 0
   IsFinallyHead = Seq (IsPast (IsSoftKeyword soft.Finally)) (λ _. IsPast (IsSign sign.OpenBrace))
 
   abbrev pub CatchTurn : List CatchTree → List CatchTree ⊎ List CatchTree → List Token → List Token → Type 0
-  CatchTurn cs = WhereRoom (some_levels below.levels) IsCatchHead (λ x. Seq (below.catch at (name_of x)) (λ c. Gives (inl (cs ++ c ∷ [])))) (Gives (inr cs))
+  CatchTurn cs = WhereRoom (some_levels below.levels) IsCatchHead
+      (λ x. Seq (below.catch at (name_of x)) (λ c. Gives (inl (cs ++ c ∷ [])))) (Gives (inr cs))
 
   -- without `catch` there is a `finally`
   abbrev pub IsNoFinally : Pos → BlockTree → List CatchTree → ExpressionTree → List Token → List Token → Type 0
@@ -124,8 +144,10 @@ module _ (room : ℕ) (below : Phrases) (at : Context) where
   -- try : 'try' n block (n 'catch' '(' ID ':' type ')' n block)* (n 'finally' n block)?
   -- It takes each `catch` and the `finally` that follow.
   abbrev pub IsTry : ExpressionTree → List Token → List Token → Type 0
-  IsTry = Seq (IsKeyword word.Try) (λ t. Seq (IsPast (IsBlock (below.statement at))) (λ b. Seq (Loop CatchTurn []) (λ cs.
-      Where IsFinallyHead (λ _. Seq (IsBlockRest (below.statement at)) (λ f. Gives (e.try_catch t.pos b (catches_of cs) (e.some_block f)))) (IsNoFinally t.pos b cs))))
+  IsTry = Seq (IsKeyword word.Try)
+      (λ t. Seq (IsPast (IsBlock (below.statement at))) (λ b. Seq (Loop CatchTurn []) (λ cs.
+      Where IsFinallyHead (λ _. Seq (IsBlockRest (below.statement at))
+          (λ f. Gives (e.try_catch t.pos b (catches_of cs) (e.some_block f)))) (IsNoFinally t.pos b cs))))
 
   -- 'throw' expr
   abbrev pub IsThrow : ExpressionTree → List Token → List Token → Type 0
@@ -134,7 +156,10 @@ module _ (room : ℕ) (below : Phrases) (at : Context) where
   -- 'return' expr?
   -- It takes an expression where one follows, and doesn't stand in a lambda.
   abbrev pub IsReturn : ExpressionTree → List Token → List Token → Type 0
-  IsReturn = If (not at.in_lambda) (Seq (IsKeyword word.Return) (λ t. Where (below.disjunction at) (λ a. Gives (e.return t.pos (e.some_expression a))) (Gives (e.return t.pos e.no_expression)))) Empty
+  IsReturn = If (not at.in_lambda)
+      (Seq (IsKeyword word.Return)
+      (λ t. Where (below.disjunction at) (λ a. Gives (e.return t.pos (e.some_expression a)))
+      (Gives (e.return t.pos e.no_expression)))) Empty
 
   -- 'break', in a loop
   abbrev pub IsBreak : ExpressionTree → List Token → List Token → Type 0
@@ -153,7 +178,9 @@ module _ (room : ℕ) (below : Phrases) (at : Context) where
   -- '(' args? ')' lambda?      args : expr (',' expr)*
   -- A lambda that follows is the last argument.
   abbrev pub IsArguments : List ExpressionTree → List Token → List Token → Type 0
-  IsArguments = Seq (IsSign sign.OpenParenthesis) (λ _. Seq (MaybeCommaList (is_sign sign.CloseParenthesis) (below.disjunction at)) (λ es. Where (below.lambda at) (λ l. Gives (es ++ l ∷ [])) (Gives es)))
+  IsArguments = Seq (IsSign sign.OpenParenthesis)
+      (λ _. Seq (MaybeCommaList (is_sign sign.CloseParenthesis) (below.disjunction at))
+      (λ es. Where (below.lambda at) (λ l. Gives (es ++ l ∷ [])) (Gives es)))
 
   -- call : '(' args? ')' lambda? | lambda, behind its type arguments
   abbrev pub IsCall : List ExpressionTree → List Token → List Token → Type 0
@@ -173,17 +200,22 @@ module _ (room : ℕ) (below : Phrases) (at : Context) where
   -- suffix : '!!' | '[' expr ']' | n ('.' | '?.') n ID, beside a call
   abbrev pub IsSuffix : ExpressionTree → ExpressionTree → List Token → List Token → Type 0
   IsSuffix a = Either (Seq (IsSign sign.NotNull) (λ _. Gives (e.not_null (place a) a)))
-      (Either (Seq (IsSign sign.OpenBracket) (λ _. Seq (below.disjunction at) (λ i. Seq (IsSign sign.CloseBracket) (λ _. Gives (e.index (place a) a i)))))
-      (Seq (IsPast (IsMeant member_of)) (λ safe. Seq (IsPast IsIdentifier) (λ x. Gives (e.member (place a) a safe.1 (name_of x))))))
+      (Either (Seq (IsSign sign.OpenBracket)
+          (λ _. Seq (below.disjunction at) (λ i. Seq (IsSign sign.CloseBracket) (λ _. Gives (e.index (place a) a i)))))
+      (Seq (IsPast (IsMeant member_of))
+          (λ safe. Seq (IsPast IsIdentifier) (λ x. Gives (e.member (place a) a safe.1 (name_of x))))))
 
   -- targs, and then '(' or '{'
   abbrev pub IsTypeArgumentsOfCall : List TypeTree → List Token → List Token → Type 0
-  IsTypeArgumentsOfCall = Seq (IsTypeArguments (IsType room)) (λ ts. Seq (IsAhead (either (is_sign sign.OpenParenthesis) (is_sign sign.OpenBrace))) (λ _. Gives ts))
+  IsTypeArgumentsOfCall =
+      Seq (IsTypeArguments (IsType room))
+      (λ ts. Seq (IsAhead (either (is_sign sign.OpenParenthesis) (is_sign sign.OpenBrace))) (λ _. Gives ts))
 
   -- Where a name is followed by tokens that read as type arguments and then `(` or `{`, they are read so. As many suffixes are
   -- taken as follow.
   abbrev pub SuffixTurn : ExpressionTree → ExpressionTree ⊎ ExpressionTree → List Token → List Token → Type 0
-  SuffixTurn a = WhereRoom (ends_in_name a) IsTypeArgumentsOfCall (λ ts. Seq IsCall (λ es. Gives (inl (called a ts es))))
+  SuffixTurn a = WhereRoom (ends_in_name a) IsTypeArgumentsOfCall
+      (λ ts. Seq IsCall (λ es. Gives (inl (called a ts es))))
       (WhereRoom (has_call a) IsCall (λ es. Gives (inl (called a [] es)))
       (WhereRoom (has_more a) (IsSuffix a) (λ c. Gives (inl c)) (Gives (inr a))))
 
@@ -195,10 +227,12 @@ module _ (room : ℕ) (below : Phrases) (at : Context) where
 
   -- prefix : ('-' | '!')* postfix
   abbrev pub IsPrefixed : ExpressionTree → List Token → List Token → Type 0
-  IsPrefixed = Either (Seq (IsMeant prefix_of) (λ o. Seq (below.prefix at) (λ a. Gives (e.prefix o.0.pos o.1 a)))) IsPostfix
+  IsPrefixed = Either (Seq (IsMeant prefix_of) (λ o. Seq (below.prefix at) (λ a. Gives (e.prefix o.0.pos o.1 a))))
+      IsPostfix
 
   abbrev pub CastTurn : ExpressionTree → ExpressionTree ⊎ ExpressionTree → List Token → List Token → Type 0
-  CastTurn a = WhereRoom (has_more a) (IsMeant cast_of) (λ safe. Seq (IsPast (IsType room)) (λ t. Gives (inl (e.cast (place a) a safe.1 t)))) (Gives (inr a))
+  CastTurn a = WhereRoom (has_more a) (IsMeant cast_of)
+      (λ safe. Seq (IsPast (IsType room)) (λ t. Gives (inl (e.cast (place a) a safe.1 t)))) (Gives (inr a))
 
   -- cast : prefix (('as' | 'as?') n type)*
   abbrev pub IsCast : ExpressionTree → List Token → List Token → Type 0
@@ -209,7 +243,9 @@ module _ (room : ℕ) (below : Phrases) (at : Context) where
   joined o a b = e.binary (place a) o.1 a b
 
   -- operand (operator n operand)*, grouped to the left, while there is room
-  abbrev pub IsChain : (ExpressionTree → List Token → List Token → Type 0) → (Token × BinaryOperator → List Token → List Token → Type 0) → (ExpressionTree → List Token → List Token → Type 0) → ExpressionTree → List Token → List Token → Type 0
+  abbrev pub IsChain : (ExpressionTree → List Token → List Token → Type 0)
+      → (Token × BinaryOperator → List Token → List Token → Type 0)
+      → (ExpressionTree → List Token → List Token → Type 0) → ExpressionTree → List Token → List Token → Type 0
   IsChain First Operator Operand = Chain has_more First Operator is_new_line Operand joined
 
   -- mul : cast (('*' | '/' | '%') n cast)*
@@ -230,11 +266,15 @@ module _ (room : ℕ) (below : Phrases) (at : Context) where
 
   -- test : elvis (('is' | '!is') n type)?
   abbrev pub IsTest : ExpressionTree → List Token → List Token → Type 0
-  IsTest = Seq IsElvis (λ a. WhereRoom (has_more a) (IsMeant type_check_of) (λ not. Seq (IsPast (IsType room)) (λ t. Gives (e.type_check (place a) a not.1 t))) (Gives a))
+  IsTest = Seq IsElvis
+      (λ a. WhereRoom (has_more a) (IsMeant type_check_of)
+      (λ not. Seq (IsPast (IsType room)) (λ t. Gives (e.type_check (place a) a not.1 t))) (Gives a))
 
   -- cmp : test (('<' | '>' | '<=' | '>=') n test)?
   abbrev pub IsComparison : ExpressionTree → List Token → List Token → Type 0
-  IsComparison = Seq IsTest (λ a. WhereRoom (has_more a) (IsMeant comparison_of) (λ o. Seq (IsPast (below.test at)) (λ b. Gives (joined o a b))) (Gives a))
+  IsComparison = Seq IsTest
+      (λ a. WhereRoom (has_more a) (IsMeant comparison_of)
+      (λ o. Seq (IsPast (below.test at)) (λ b. Gives (joined o a b))) (Gives a))
 
   -- eq : cmp (('==' | '!=') n cmp)*
   abbrev pub IsEquality : ExpressionTree → List Token → List Token → Type 0

@@ -13,7 +13,8 @@ use Rattle.kt_grammar.specs.DeclarationParser.{file_parser}
 
 -- each sentence is read by the parser
 abbrev pub SentencesAreRead : {A : Type 0} → Parser Token A → (A → List Token → List Token → Type 0) → Type 0
-SentencesAreRead {A} p L = (ts : List Token) (a : A) → IsSentence L ts a → (far : List Token) × (p (cursor ts ts) ≡ Ok (a, cursor [] far))
+SentencesAreRead {A} p L = (ts : List Token) (a : A) → IsSentence L ts a → (far : List Token)
+    × (p (cursor ts ts) ≡ Ok (a, cursor [] far))
 
 -- what the parser refuses is the first token that no sentence has there
 abbrev pub RefusesFirst : {A : Type 0} → Parser Token A → (A → List Token → List Token → Type 0) → Type 0
@@ -34,20 +35,24 @@ abbrev pub OneExpression : Type 0
 OneExpression = (n : ℕ) (at : Context) → OneValue ((phrases (suc n)).disjunction at)
 
 abbrev pub ExpressionIsRead : Type 0
-ExpressionIsRead = (n : ℕ) (at : Context) → SentencesAreRead ((parsers (suc n)).disjunction at) ((phrases (suc n)).disjunction at)
+ExpressionIsRead = (n : ℕ) (at : Context)
+    → SentencesAreRead ((parsers (suc n)).disjunction at) ((phrases (suc n)).disjunction at)
 
 abbrev pub ExpressionIsRefused : Type 0
-ExpressionIsRefused = (n : ℕ) (at : Context) → RefusesFirst ((parsers (suc n)).disjunction at) ((phrases (suc n)).disjunction at)
+ExpressionIsRefused = (n : ℕ) (at : Context)
+    → RefusesFirst ((parsers (suc n)).disjunction at) ((phrases (suc n)).disjunction at)
 
 -- a list of tokens spells at most one statement
 abbrev pub OneStatement : Type 0
 OneStatement = (n : ℕ) (at : Context) → OneValue ((phrases (suc n)).statement at)
 
 abbrev pub StatementIsRead : Type 0
-StatementIsRead = (n : ℕ) (at : Context) → SentencesAreRead ((parsers (suc n)).statement at) ((phrases (suc n)).statement at)
+StatementIsRead = (n : ℕ) (at : Context)
+    → SentencesAreRead ((parsers (suc n)).statement at) ((phrases (suc n)).statement at)
 
 abbrev pub StatementIsRefused : Type 0
-StatementIsRefused = (n : ℕ) (at : Context) → RefusesFirst ((parsers (suc n)).statement at) ((phrases (suc n)).statement at)
+StatementIsRefused = (n : ℕ) (at : Context)
+    → RefusesFirst ((parsers (suc n)).statement at) ((phrases (suc n)).statement at)
 
 abbrev pub FileIsRead : Type 0
 FileIsRead = SentencesAreRead file_parser IsFile

@@ -99,7 +99,8 @@ repeat turn x = λ c. loop turn (suc (length c.rest)) x c
 
 -- takes nothing, where the next token passes the test
 unfoldable pub ahead : {T : Type 0} → (T → Bool) → Parser T (Unit {0})
-ahead test = λ c. if first test c.rest then Ok (tt, cursor c.rest (further c.rest c.far)) else Err (further c.rest c.far)
+ahead test = λ c. if first test c.rest then Ok (tt, cursor c.rest (further c.rest c.far))
+    else Err (further c.rest c.far)
 
 -- at least one level is left
 abbrev pub some_levels : ℕ → Bool
@@ -115,7 +116,8 @@ attempt_if false p go other = other
 
 -- ',' item, or the token that ends the list
 abbrev pub comma_turn : {T A : Type 0} → (T → Bool) → (T → Bool) → Parser T A → List A → Parser T (List A ⊎ List A)
-comma_turn comma close item xs = on comma (λ _. item >>= (λ x. pure (inl (xs ++ x ∷ [])))) (token close >>= (λ _. pure (inr xs)))
+comma_turn comma close item xs =
+    on comma (λ _. item >>= (λ x. pure (inl (xs ++ x ∷ [])))) (token close >>= (λ _. pure (inr xs)))
 
 -- item (',' item)* close
 abbrev pub comma_list : {T A : Type 0} → (T → Bool) → (T → Bool) → Parser T A → Parser T (List A)
@@ -126,8 +128,10 @@ abbrev pub maybe_comma_list : {T A : Type 0} → (T → Bool) → (T → Bool) �
 maybe_comma_list comma close item = on close (λ _. pure []) (comma_list comma close item)
 
 -- lead ',' lines item, as long as a comma follows
-abbrev pub more_turn : {T A : Type 0} → Parser T (Unit {0}) → (T → Bool) → (T → Bool) → Parser T A → List A → Parser T (List A ⊎ List A)
-more_turn lead comma line item xs = attempt (lead >> token comma) (λ _. skip line >> (item >>= (λ x. pure (inl (xs ++ x ∷ []))))) (pure (inr xs))
+abbrev pub more_turn : {T A : Type 0} → Parser T (Unit {0}) → (T → Bool) → (T → Bool) → Parser T A → List A
+    → Parser T (List A ⊎ List A)
+more_turn lead comma line item xs =
+    attempt (lead >> token comma) (λ _. skip line >> (item >>= (λ x. pure (inl (xs ++ x ∷ []))))) (pure (inr xs))
 
 -- item (lead ',' lines item)*
 abbrev pub several : {T A : Type 0} → Parser T (Unit {0}) → (T → Bool) → (T → Bool) → Parser T A → Parser T (List A)
@@ -139,7 +143,8 @@ gap separator close = on separator (λ _. skip separator) (ahead close)
 
 -- an item and the gap behind it, or the closing token
 abbrev pub item_turn : {T A : Type 0} → (T → Bool) → (T → Bool) → Parser T A → List A → Parser T (List A ⊎ (List A × T))
-item_turn separator close item xs = on close (λ t. pure (inr (xs, t))) (item >>= (λ x. gap separator close >> pure (inl (xs ++ x ∷ []))))
+item_turn separator close item xs =
+    on close (λ t. pure (inr (xs, t))) (item >>= (λ x. gap separator close >> pure (inl (xs ++ x ∷ []))))
 
 -- separators, the items, and the closing token
 abbrev pub items : {T A : Type 0} → (T → Bool) → (T → Bool) → Parser T A → Parser T (List A × T)
@@ -148,9 +153,13 @@ items separator close item = skip separator >> repeat (item_turn separator close
 -- ---- chains
 
 -- lead operator lines operand, as long as an operator follows and there is room
-abbrev pub chain_turn : {T A O : Type 0} → (A → Bool) → Parser T O → (T → Bool) → Parser T A → (O → A → A → A) → A → Parser T (A ⊎ A)
-chain_turn room operator line operand build a = attempt_if (room a) operator (λ o. skip line >> (operand >>= (λ b. pure (inl (build o a b))))) (pure (inr a))
+abbrev pub chain_turn : {T A O : Type 0} → (A → Bool) → Parser T O → (T → Bool) → Parser T A → (O → A → A → A) → A
+    → Parser T (A ⊎ A)
+chain_turn room operator line operand build a =
+    attempt_if (room a) operator (λ o. skip line >> (operand >>= (λ b. pure (inl (build o a b))))) (pure (inr a))
 
 -- operand (operator lines operand)*, grouped to the left
-abbrev pub chain : {T A O : Type 0} → (A → Bool) → Parser T A → Parser T O → (T → Bool) → Parser T A → (O → A → A → A) → Parser T A
-chain room first_operand operator line operand build = first_operand >>= (λ a. repeat (chain_turn room operator line operand build) a)
+abbrev pub chain : {T A O : Type 0} → (A → Bool) → Parser T A → Parser T O → (T → Bool) → Parser T A → (O → A → A → A)
+    → Parser T A
+chain room first_operand operator line operand build = first_operand
+    >>= (λ a. repeat (chain_turn room operator line operand build) a)

@@ -28,7 +28,8 @@ pub record IsSkipped {T : Type 0} (test : T → Bool) (a : Unit {0}) (u rest : L
   pub all : first test rest ≡ false
 
 -- one after the other, where the value of the first decides what the second may be
-pub record Seq {T A B : Type 0} (L : A → List T → List T → Type 0) (M : A → B → List T → List T → Type 0) (b : B) (u rest : List T) : Type 0 where
+pub record Seq {T A B : Type 0} (L : A → List T → List T → Type 0) (M : A → B → List T → List T → Type 0) (b : B)
+    (u rest : List T) : Type 0 where
   pub value : A
   pub front : List T
   pub back : List T
@@ -37,7 +38,8 @@ pub record Seq {T A B : Type 0} (L : A → List T → List T → Type 0) (M : A 
   pub phrase' : M value b back rest
 
 -- one or the other
-abbrev pub Either : {T B : Type 0} → (B → List T → List T → Type 0) → (B → List T → List T → Type 0) → B → List T → List T → Type 0
+abbrev pub Either : {T B : Type 0} → (B → List T → List T → Type 0) → (B → List T → List T → Type 0) → B → List T
+    → List T → Type 0
 Either L M b u rest = L b u rest ⊎ M b u rest
 
 -- no phrase stands at the front
@@ -45,13 +47,15 @@ abbrev pub NotReads : {T A : Type 0} → (A → List T → List T → Type 0) �
 NotReads {T} {A} K ts = (a : A) (u rest : List T) → ts ≡ u ++ rest → K a u rest → ⊥
 
 -- where the first stands at the front, it and what goes with it, else the other
-abbrev pub FirstOf : {T A B : Type 0} → (A → List T → List T → Type 0) → (A → B → List T → List T → Type 0) → (B → List T → List T → Type 0) → B → List T → List T → Type 0
+abbrev pub FirstOf : {T A B : Type 0} → (A → List T → List T → Type 0) → (A → B → List T → List T → Type 0)
+    → (B → List T → List T → Type 0) → B → List T → List T → Type 0
 FirstOf K L M b u rest = Seq K L b u rest ⊎ (M b u rest × NotReads K (u ++ rest))
 
 -- turns from x: a turn leads to a further one, inl y, or to the end, inr b
 pub data Loop {T S B : Type 0} (Turn : S → S ⊎ B → List T → List T → Type 0) : S → B → List T → List T → Type 0 where
   ends : {x : S} {b : B} {u rest : List T} → Turn x (inr b) u rest → Loop Turn x b u rest
-  turns : {x y : S} {b : B} {u v w rest : List T} → Turn x (inl y) v (w ++ rest) → Loop Turn y b w rest → u ≡ v ++ w → Loop Turn x b u rest
+  turns : {x y : S} {b : B} {u v w rest : List T} → Turn x (inl y) v (w ++ rest) → Loop Turn y b w rest → u ≡ v ++ w
+      → Loop Turn x b u rest
 
 -- nothing is read; a token that passes the test comes next
 pub record IsAhead {T : Type 0} (test : T → Bool) (a : Unit {0}) (u rest : List T) : Type 0 where
@@ -59,37 +63,49 @@ pub record IsAhead {T : Type 0} (test : T → Bool) (a : Unit {0}) (u rest : Lis
   pub next : first test rest ≡ true
 
 -- where a condition holds the one, else the other
-abbrev pub If : {T A : Type 0} → Bool → (A → List T → List T → Type 0) → (A → List T → List T → Type 0) → A → List T → List T → Type 0
+abbrev pub If : {T A : Type 0} → Bool → (A → List T → List T → Type 0) → (A → List T → List T → Type 0) → A → List T
+    → List T → Type 0
 If b L M a u rest = ((b ≡ true) × L a u rest) ⊎ ((b ≡ false) × M a u rest)
 
 -- a part that may be absent: where K stands it is read, and goes on as L says; elsewhere M
-abbrev pub Where : {T A B : Type 0} → (A → List T → List T → Type 0) → (A → B → List T → List T → Type 0) → (B → List T → List T → Type 0) → B → List T → List T → Type 0
+abbrev pub Where : {T A B : Type 0} → (A → List T → List T → Type 0) → (A → B → List T → List T → Type 0)
+    → (B → List T → List T → Type 0) → B → List T → List T → Type 0
 Where K L M = FirstOf K L M
 
 -- the same, where there is room for it
-abbrev pub WhereRoom : {T A B : Type 0} → Bool → (A → List T → List T → Type 0) → (A → B → List T → List T → Type 0) → (B → List T → List T → Type 0) → B → List T → List T → Type 0
+abbrev pub WhereRoom : {T A B : Type 0} → Bool → (A → List T → List T → Type 0) → (A → B → List T → List T → Type 0)
+    → (B → List T → List T → Type 0) → B → List T → List T → Type 0
 WhereRoom room K L M = If room (FirstOf K L M) M
 
 -- ---- lists
 
 -- ',' item, or the token that ends the list
-abbrev pub CommaTurn : {T A : Type 0} → (T → Bool) → (T → Bool) → (A → List T → List T → Type 0) → List A → List A ⊎ List A → List T → List T → Type 0
-CommaTurn comma close Item xs = Either (Seq (IsToken comma) (λ _. Seq Item (λ x. IsNothing (inl (xs ++ x ∷ []))))) (Seq (IsToken close) (λ _. IsNothing (inr xs)))
+abbrev pub CommaTurn : {T A : Type 0} → (T → Bool) → (T → Bool) → (A → List T → List T → Type 0) → List A → List A
+    ⊎ List A → List T → List T → Type 0
+CommaTurn comma close Item xs =
+    Either (Seq (IsToken comma) (λ _. Seq Item (λ x. IsNothing (inl (xs ++ x ∷ [])))))
+    (Seq (IsToken close) (λ _. IsNothing (inr xs)))
 
 -- item (',' item)* close
-abbrev pub CommaList : {T A : Type 0} → (T → Bool) → (T → Bool) → (A → List T → List T → Type 0) → List A → List T → List T → Type 0
+abbrev pub CommaList : {T A : Type 0} → (T → Bool) → (T → Bool) → (A → List T → List T → Type 0) → List A → List T
+    → List T → Type 0
 CommaList comma close Item = Seq Item (λ x. Loop (CommaTurn comma close Item) (x ∷ []))
 
 -- (item (',' item)*)? close
-abbrev pub MaybeCommaList : {T A : Type 0} → (T → Bool) → (T → Bool) → (A → List T → List T → Type 0) → List A → List T → List T → Type 0
+abbrev pub MaybeCommaList : {T A : Type 0} → (T → Bool) → (T → Bool) → (A → List T → List T → Type 0) → List A → List T
+    → List T → Type 0
 MaybeCommaList comma close Item = Either (Seq (IsToken close) (λ _. IsNothing [])) (CommaList comma close Item)
 
 -- lead ',' lines item, as long as a comma follows
-abbrev pub MoreTurn : {T A : Type 0} → (Unit {0} → List T → List T → Type 0) → (T → Bool) → (T → Bool) → (A → List T → List T → Type 0) → List A → List A ⊎ List A → List T → List T → Type 0
-MoreTurn Lead comma line Item xs = FirstOf (Seq Lead (λ _. IsToken comma)) (λ _. Seq (IsSkipped line) (λ _. Seq Item (λ x. IsNothing (inl (xs ++ x ∷ []))))) (IsNothing (inr xs))
+abbrev pub MoreTurn : {T A : Type 0} → (Unit {0} → List T → List T → Type 0) → (T → Bool) → (T → Bool)
+    → (A → List T → List T → Type 0) → List A → List A ⊎ List A → List T → List T → Type 0
+MoreTurn Lead comma line Item xs =
+    FirstOf (Seq Lead (λ _. IsToken comma))
+    (λ _. Seq (IsSkipped line) (λ _. Seq Item (λ x. IsNothing (inl (xs ++ x ∷ []))))) (IsNothing (inr xs))
 
 -- item (lead ',' lines item)*
-abbrev pub Several : {T A : Type 0} → (Unit {0} → List T → List T → Type 0) → (T → Bool) → (T → Bool) → (A → List T → List T → Type 0) → List A → List T → List T → Type 0
+abbrev pub Several : {T A : Type 0} → (Unit {0} → List T → List T → Type 0) → (T → Bool) → (T → Bool)
+    → (A → List T → List T → Type 0) → List A → List T → List T → Type 0
 Several Lead comma line Item = Seq Item (λ x. Loop (MoreTurn Lead comma line Item) (x ∷ []))
 
 -- what stands behind an item: separators, or nothing where the closing token comes next
@@ -97,19 +113,27 @@ abbrev pub IsGap : {T : Type 0} → (T → Bool) → (T → Bool) → Unit {0} �
 IsGap separator close = Either (Seq (IsToken separator) (λ _. IsSkipped separator)) (IsAhead close)
 
 -- an item and the gap behind it, or the closing token
-abbrev pub ItemTurn : {T A : Type 0} → (T → Bool) → (T → Bool) → (A → List T → List T → Type 0) → List A → List A ⊎ (List A × T) → List T → List T → Type 0
-ItemTurn separator close Item xs = Either (Seq (IsToken close) (λ t. IsNothing (inr (xs, t)))) (Seq Item (λ x. Seq (IsGap separator close) (λ _. IsNothing (inl (xs ++ x ∷ [])))))
+abbrev pub ItemTurn : {T A : Type 0} → (T → Bool) → (T → Bool) → (A → List T → List T → Type 0) → List A → List A
+    ⊎ (List A × T) → List T → List T → Type 0
+ItemTurn separator close Item xs =
+    Either (Seq (IsToken close) (λ t. IsNothing (inr (xs, t))))
+    (Seq Item (λ x. Seq (IsGap separator close) (λ _. IsNothing (inl (xs ++ x ∷ [])))))
 
 -- separators, the items, and the closing token
-abbrev pub Items : {T A : Type 0} → (T → Bool) → (T → Bool) → (A → List T → List T → Type 0) → List A × T → List T → List T → Type 0
+abbrev pub Items : {T A : Type 0} → (T → Bool) → (T → Bool) → (A → List T → List T → Type 0) → List A × T → List T
+    → List T → Type 0
 Items separator close Item = Seq (IsSkipped separator) (λ _. Loop (ItemTurn separator close Item) [])
 
 -- ---- chains
 
 -- operator lines operand, as long as an operator follows and there is room
-abbrev pub ChainTurn : {T A O : Type 0} → (A → Bool) → (O → List T → List T → Type 0) → (T → Bool) → (A → List T → List T → Type 0) → (O → A → A → A) → A → A ⊎ A → List T → List T → Type 0
-ChainTurn room Operator line Operand build a = WhereRoom (room a) Operator (λ o. Seq (IsSkipped line) (λ _. Seq Operand (λ b. IsNothing (inl (build o a b))))) (IsNothing (inr a))
+abbrev pub ChainTurn : {T A O : Type 0} → (A → Bool) → (O → List T → List T → Type 0) → (T → Bool)
+    → (A → List T → List T → Type 0) → (O → A → A → A) → A → A ⊎ A → List T → List T → Type 0
+ChainTurn room Operator line Operand build a =
+    WhereRoom (room a) Operator (λ o. Seq (IsSkipped line) (λ _. Seq Operand (λ b. IsNothing (inl (build o a b)))))
+    (IsNothing (inr a))
 
 -- operand (operator lines operand)*, grouped to the left
-abbrev pub Chain : {T A O : Type 0} → (A → Bool) → (A → List T → List T → Type 0) → (O → List T → List T → Type 0) → (T → Bool) → (A → List T → List T → Type 0) → (O → A → A → A) → A → List T → List T → Type 0
+abbrev pub Chain : {T A O : Type 0} → (A → Bool) → (A → List T → List T → Type 0) → (O → List T → List T → Type 0)
+    → (T → Bool) → (A → List T → List T → Type 0) → (O → A → A → A) → A → List T → List T → Type 0
 Chain room First Operator line Operand build = Seq First (λ a. Loop (ChainTurn room Operator line Operand build) a)

@@ -61,7 +61,9 @@ type_arguments part = expect sign.Less >> commas (is_sign sign.Greater) part
 
 -- ID targs?
 abbrev pub named_type : Bool → Parser Token TypeTree → Parser Token TypeTree
-named_type deep part = token is_identifier >>= (λ x. attempt_if deep (type_arguments part) (λ ts. pure (named (name_of x) (types_of ts))) (pure (named (name_of x) (types_of []))))
+named_type deep part = token is_identifier
+    >>= (λ x. attempt_if deep (type_arguments part) (λ ts. pure (named (name_of x) (types_of ts)))
+    (pure (named (name_of x) (types_of []))))
 
 -- '?'?
 abbrev pub maybe_nullable : TypeTree → Parser Token TypeTree
@@ -72,11 +74,13 @@ result_type suspends part ts = part >>= (λ t. pure (function suspends (types_of
 
 -- '(' types ')' '->' type
 abbrev pub suspend_type : Parser Token TypeTree → Parser Token TypeTree
-suspend_type part = expect sign.OpenParenthesis >> (maybe_commas (is_sign sign.CloseParenthesis) part >>= (λ ts. expect sign.Arrow >> result_type true part ts))
+suspend_type part = expect sign.OpenParenthesis
+    >> (maybe_commas (is_sign sign.CloseParenthesis) part >>= (λ ts. expect sign.Arrow >> result_type true part ts))
 
 -- behind types in parentheses
 abbrev pub behind_types : Parser Token TypeTree → List TypeTree → Parser Token TypeTree
-behind_types part (t ∷ []) = on (is_sign sign.Arrow) (λ _. result_type false part (t ∷ [])) (maybe_nullable (parenthesized t))
+behind_types part (t ∷ []) =
+    on (is_sign sign.Arrow) (λ _. result_type false part (t ∷ [])) (maybe_nullable (parenthesized t))
 behind_types part ts = expect sign.Arrow >> result_type false part ts
 
 -- behind '(': a function type, or a type in parentheses
@@ -84,7 +88,9 @@ abbrev pub behind_parenthesis : Parser Token TypeTree → Parser Token TypeTree
 behind_parenthesis part = maybe_commas (is_sign sign.CloseParenthesis) part >>= behind_types part
 
 abbrev pub type_over : Bool → Parser Token TypeTree → Parser Token TypeTree
-type_over deep part = attempt_if deep (token (is_soft_keyword soft.Suspend) >> ahead (is_sign sign.OpenParenthesis)) (λ _. suspend_type part)
+type_over deep part =
+    attempt_if deep (token (is_soft_keyword soft.Suspend) >> ahead (is_sign sign.OpenParenthesis))
+    (λ _. suspend_type part)
     (on_if deep (is_sign sign.OpenParenthesis) (λ _. behind_parenthesis part) (named_type deep part >>= maybe_nullable))
 
 -- types of at most so many levels

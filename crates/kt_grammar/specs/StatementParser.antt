@@ -28,50 +28,74 @@ module _ (room : ℕ) (below : Parsers) (at : Context) where
   deep = some_levels below.levels
 
   abbrev pub initializer : Parser Token (Option ExpressionTree)
-  initializer = on_if deep (is_sign sign.Assign) (λ _. lines >> (below.disjunction at >>= (λ a. pure (Some a)))) (pure None)
+  initializer = on_if deep (is_sign sign.Assign) (λ _. lines >> (below.disjunction at >>= (λ a. pure (Some a))))
+      (pure None)
 
   abbrev pub local_rest : Token × Bool → Parser Token StatementTree
-  local_rest var = token is_identifier >>= (λ name. maybe (is_sign sign.Colon) (type_parser room) >>= (λ t. initializer >>= (λ a. pure (e.local var.0.pos var.1 (name_of name) t (maybe_expression a)))))
+  local_rest var = token is_identifier
+      >>= (λ name. maybe (is_sign sign.Colon) (type_parser room)
+      >>= (λ t. initializer >>= (λ a. pure (e.local var.0.pos var.1 (name_of name) t (maybe_expression a)))))
 
   abbrev pub assigns : ExpressionTree → Bool
   assigns a = is_target a && nat_lt (levels a) room
 
   abbrev pub simple : Parser Token StatementTree
-  simple = disjunction_parser room below at >>= (λ a. attempt_if (assigns a) (meant assignment_of) (λ o. lines >> (below.disjunction at >>= (λ b. pure (e.assign (place a) a o.1 b))))
+  simple = disjunction_parser room below at
+      >>= (λ a. attempt_if (assigns a) (meant assignment_of)
+      (λ o. lines >> (below.disjunction at >>= (λ b. pure (e.assign (place a) a o.1 b))))
       (attempt_if (assigns a) (meant step_of) (λ o. pure (e.step (place a) a o.1)) (pure (e.evaluate (place a) a))))
 
   abbrev pub while_rest : Token → Parser Token StatementTree
-  while_rest t = expect sign.OpenParenthesis >> (below.disjunction at >>= (λ a. expect sign.CloseParenthesis >> (lines >> (below.body (in_loop at) >>= (λ b. pure (e.while t.pos a b))))))
+  while_rest t = expect sign.OpenParenthesis
+      >> (below.disjunction at
+      >>= (λ a. expect sign.CloseParenthesis
+      >> (lines >> (below.body (in_loop at) >>= (λ b. pure (e.while t.pos a b))))))
 
   abbrev pub do_rest : Token → Parser Token StatementTree
-  do_rest t = lines >> (block_of (below.statement (in_loop at)) >>= (λ b. lines >> (token (is_keyword word.While) >> (expect sign.OpenParenthesis >> (below.disjunction at >>= (λ a. expect sign.CloseParenthesis >> pure (e.do_while t.pos b a)))))))
+  do_rest t = lines >> (block_of (below.statement (in_loop at))
+      >>= (λ b. lines >> (token (is_keyword word.While)
+      >> (expect sign.OpenParenthesis
+      >> (below.disjunction at >>= (λ a. expect sign.CloseParenthesis >> pure (e.do_while t.pos b a)))))))
 
   abbrev pub for_rest : Token → Parser Token StatementTree
-  for_rest t = expect sign.OpenParenthesis >> (token is_identifier >>= (λ name. token (is_keyword word.In) >> (below.additive at >>= (λ a. meant range_of >>= (λ o. below.additive at >>= (λ b.
-      expect sign.CloseParenthesis >> (lines >> (below.body (in_loop at) >>= (λ body. pure (e.for t.pos (name_of name) a o.1 b body))))))))))
+  for_rest t = expect sign.OpenParenthesis
+      >> (token is_identifier
+      >>= (λ name. token (is_keyword word.In)
+      >> (below.additive at >>= (λ a. meant range_of >>= (λ o. below.additive at >>= (λ b.
+      expect sign.CloseParenthesis
+          >> (lines >> (below.body (in_loop at) >>= (λ body. pure (e.for t.pos (name_of name) a o.1 b body))))))))))
 
   -- no statement begins with `{`
   abbrev pub statement_parser : Parser Token StatementTree
-  statement_parser = attempt_if true (meant variable_of) local_rest (on_if deep (is_keyword word.While) while_rest (on_if deep (is_keyword word.Do) do_rest (on_if deep (is_keyword word.For) for_rest (unless (is_sign sign.OpenBrace) simple))))
+  statement_parser = attempt_if true (meant variable_of) local_rest
+      (on_if deep (is_keyword word.While) while_rest
+      (on_if deep (is_keyword word.Do) do_rest
+      (on_if deep (is_keyword word.For) for_rest (unless (is_sign sign.OpenBrace) simple))))
 
   abbrev pub body_parser : Parser Token BodyTree
-  body_parser = on (is_sign sign.OpenBrace) (λ _. block_rest statement_parser >>= (λ b. pure (e.braces b))) (statement_parser >>= (λ s. pure (e.single s)))
+  body_parser = on (is_sign sign.OpenBrace) (λ _. block_rest statement_parser >>= (λ b. pure (e.braces b)))
+      (statement_parser >>= (λ s. pure (e.single s)))
 
   abbrev pub condition_parser : Bool → Parser Token ConditionTree
-  condition_parser subject = attempt_if subject (meant type_check_of) (λ not. type_parser room >>= (λ t. pure (e.of_type not.1 t))) (below.disjunction at >>= (λ a. pure (e.equals a)))
+  condition_parser subject =
+      attempt_if subject (meant type_check_of) (λ not. type_parser room >>= (λ t. pure (e.of_type not.1 t)))
+      (below.disjunction at >>= (λ a. pure (e.equals a)))
 
   abbrev pub entry_head : Bool → Parser Token (List ConditionTree)
   entry_head subject = on (is_keyword word.Else) (λ _. pure []) (several_items (pure tt) (below.condition at subject))
 
   abbrev pub entry_rest : List ConditionTree → Parser Token EntryTree
-  entry_rest cs = lines >> (expect sign.Arrow >> (lines >> (below.body at >>= (λ b. pure (e.entry (conditions_of cs) b)))))
+  entry_rest cs = lines
+      >> (expect sign.Arrow >> (lines >> (below.body at >>= (λ b. pure (e.entry (conditions_of cs) b)))))
 
   -- none where no level is left for its body
   abbrev pub entry_parser : Bool → Parser Token EntryTree
   entry_parser subject = refused_if (not deep) (entry_head subject >>= entry_rest)
 
   abbrev pub catch_parser : List ℕ → Parser Token CatchTree
-  catch_parser name = type_parser room >>= (λ t. expect sign.CloseParenthesis >> (lines >> (block_of (below.statement at) >>= (λ b. pure (e.catch name t b)))))
+  catch_parser name = type_parser room
+      >>= (λ t. expect sign.CloseParenthesis
+      >> (lines >> (block_of (below.statement at) >>= (λ b. pure (e.catch name t b)))))
 
 abbrev pub no_parsers : Parsers
 no_parsers = record {

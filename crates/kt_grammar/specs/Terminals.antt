@@ -146,20 +146,26 @@ abbrev pub equality_of : Meaning BinaryOperator
 equality_of = means (is_sign sign.Equal) binary.Equal (means (is_sign sign.NotEqual) binary.NotEqual nothing)
 
 abbrev pub comparison_of : Meaning BinaryOperator
-comparison_of = means (is_sign sign.Less) binary.Less (means (is_sign sign.Greater) binary.Greater (means (is_sign sign.LessOrEqual) binary.LessOrEqual (means (is_sign sign.GreaterOrEqual) binary.GreaterOrEqual nothing)))
+comparison_of = means (is_sign sign.Less) binary.Less
+    (means (is_sign sign.Greater) binary.Greater
+    (means (is_sign sign.LessOrEqual) binary.LessOrEqual
+    (means (is_sign sign.GreaterOrEqual) binary.GreaterOrEqual nothing)))
 
 abbrev pub elvis_of : Meaning BinaryOperator
 elvis_of = means (is_sign sign.Elvis) binary.Elvis nothing
 
 abbrev pub infix_of : Meaning BinaryOperator
-infix_of = means (is_soft_keyword soft.And) binary.And (means (is_soft_keyword soft.Or) binary.Or (means (is_soft_keyword soft.Xor) binary.Xor
-    (means (is_soft_keyword soft.Shl) binary.Shl (means (is_soft_keyword soft.Shr) binary.Shr (means (is_soft_keyword soft.Ushr) binary.Ushr nothing)))))
+infix_of = means (is_soft_keyword soft.And) binary.And
+    (means (is_soft_keyword soft.Or) binary.Or (means (is_soft_keyword soft.Xor) binary.Xor
+    (means (is_soft_keyword soft.Shl) binary.Shl
+        (means (is_soft_keyword soft.Shr) binary.Shr (means (is_soft_keyword soft.Ushr) binary.Ushr nothing)))))
 
 abbrev pub additive_of : Meaning BinaryOperator
 additive_of = means (is_sign sign.Plus) binary.Plus (means (is_sign sign.Minus) binary.Minus nothing)
 
 abbrev pub multiplicative_of : Meaning BinaryOperator
-multiplicative_of = means (is_sign sign.Times) binary.Times (means (is_sign sign.Divide) binary.Divide (means (is_sign sign.Remainder) binary.Remainder nothing))
+multiplicative_of = means (is_sign sign.Times) binary.Times
+    (means (is_sign sign.Divide) binary.Divide (means (is_sign sign.Remainder) binary.Remainder nothing))
 
 abbrev pub prefix_of : Meaning PrefixOperator
 prefix_of = means (is_sign sign.Minus) prefix.Negate (means (is_sign sign.Not) prefix.Not nothing)
@@ -181,8 +187,11 @@ abbrev pub variable_of : Meaning Bool
 variable_of = means (is_keyword word.Val) false (means (is_keyword word.Var) true nothing)
 
 abbrev pub assignment_of : Meaning AssignmentOperator
-assignment_of = means (is_sign sign.Assign) assignment.Set (means (is_sign sign.PlusAssign) assignment.Add (means (is_sign sign.MinusAssign) assignment.Subtract
-    (means (is_sign sign.TimesAssign) assignment.Multiply (means (is_sign sign.DivideAssign) assignment.Divide (means (is_sign sign.RemainderAssign) assignment.Remainder nothing)))))
+assignment_of = means (is_sign sign.Assign) assignment.Set
+    (means (is_sign sign.PlusAssign) assignment.Add (means (is_sign sign.MinusAssign) assignment.Subtract
+    (means (is_sign sign.TimesAssign) assignment.Multiply
+        (means (is_sign sign.DivideAssign) assignment.Divide
+        (means (is_sign sign.RemainderAssign) assignment.Remainder nothing)))))
 
 abbrev pub step_of : Meaning StepOperator
 step_of = means (is_sign sign.Increment) step.Increment (means (is_sign sign.Decrement) step.Decrement nothing)

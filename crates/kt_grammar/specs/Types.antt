@@ -19,7 +19,9 @@ module _ (Part : TypeTree → List Token → List Token → Type 0) where
   -- ID targs?
   -- Where tokens read as type arguments, they are read so.
   abbrev pub IsNamedType : TypeTree → List Token → List Token → Type 0
-  IsNamedType = Seq IsIdentifier (λ x. Where IsTypeArguments (λ ts. Gives (named (name_of x) (types_of ts))) (Gives (named (name_of x) (types_of []))))
+  IsNamedType = Seq IsIdentifier
+      (λ x. Where IsTypeArguments (λ ts. Gives (named (name_of x) (types_of ts)))
+      (Gives (named (name_of x) (types_of []))))
 
   -- '?'?
   abbrev pub IsMaybeNullable : TypeTree → TypeTree → List Token → List Token → Type 0
@@ -31,7 +33,9 @@ module _ (Part : TypeTree → List Token → List Token → Type 0) where
 
   -- '(' (type (',' type)*)? ')' '->' type, behind 'suspend'
   abbrev pub IsSuspendType : TypeTree → List Token → List Token → Type 0
-  IsSuspendType = Seq (IsSign sign.OpenParenthesis) (λ _. Seq (MaybeCommaList (is_sign sign.CloseParenthesis) Part) (λ ts. Seq (IsSign sign.Arrow) (λ _. IsResult true ts)))
+  IsSuspendType = Seq (IsSign sign.OpenParenthesis)
+      (λ _. Seq (MaybeCommaList (is_sign sign.CloseParenthesis) Part)
+      (λ ts. Seq (IsSign sign.Arrow) (λ _. IsResult true ts)))
 
   -- '->' type | '?'?, behind types in parentheses
   -- One type alone is a type in parentheses where no `->` follows.
@@ -41,7 +45,8 @@ module _ (Part : TypeTree → List Token → List Token → Type 0) where
 
   -- '(' (type (',' type)*)? ')' '->' type | '(' type ')' '?'?
   abbrev pub IsInParentheses : TypeTree → List Token → List Token → Type 0
-  IsInParentheses = Seq (IsSign sign.OpenParenthesis) (λ _. Seq (MaybeCommaList (is_sign sign.CloseParenthesis) Part) IsBehindTypes)
+  IsInParentheses = Seq (IsSign sign.OpenParenthesis)
+      (λ _. Seq (MaybeCommaList (is_sign sign.CloseParenthesis) Part) IsBehindTypes)
 
   -- 'suspend', where '(' follows: it is no name then
   abbrev pub IsSuspend : Unit {0} → List Token → List Token → Type 0
@@ -50,7 +55,8 @@ module _ (Part : TypeTree → List Token → List Token → Type 0) where
   -- type : atom '?'?      atom : 'suspend'? '(' (type (',' type)*)? ')' '->' type | ID targs? | '(' type ')'
   -- A function type takes no `?` of its own.
   abbrev pub IsTypeOver : Bool → TypeTree → List Token → List Token → Type 0
-  IsTypeOver deep = WhereRoom deep IsSuspend (λ _. IsSuspendType) (Either IsInParentheses (Seq IsNamedType IsMaybeNullable))
+  IsTypeOver deep = WhereRoom deep IsSuspend (λ _. IsSuspendType)
+      (Either IsInParentheses (Seq IsNamedType IsMaybeNullable))
 
 -- types of at most so many levels
 unfoldable pub IsType : ℕ → TypeTree → List Token → List Token → Type 0

@@ -52,23 +52,28 @@ abbrev pub IsPast : {A : Type 0} → (A → List Token → List Token → Type 0
 IsPast L = Seq IsLines (λ _. L)
 
 -- what L gives, or nothing
-abbrev pub Maybe : {A : Type 0} → (Token → Bool) → (A → List Token → List Token → Type 0) → Option A → List Token → List Token → Type 0
+abbrev pub Maybe : {A : Type 0} → (Token → Bool) → (A → List Token → List Token → Type 0) → Option A → List Token
+    → List Token → Type 0
 Maybe test L = FirstOf (IsToken test) (λ _. Seq L (λ a. Gives (Some a))) (Gives None)
 
 -- item (',' item)* close
-abbrev pub CommaList : {A : Type 0} → (Token → Bool) → (A → List Token → List Token → Type 0) → List A → List Token → List Token → Type 0
+abbrev pub CommaList : {A : Type 0} → (Token → Bool) → (A → List Token → List Token → Type 0) → List A → List Token
+    → List Token → Type 0
 CommaList = p.CommaList (is_sign sign.Comma)
 
 -- (item (',' item)*)? close
-abbrev pub MaybeCommaList : {A : Type 0} → (Token → Bool) → (A → List Token → List Token → Type 0) → List A → List Token → List Token → Type 0
+abbrev pub MaybeCommaList : {A : Type 0} → (Token → Bool) → (A → List Token → List Token → Type 0) → List A
+    → List Token → List Token → Type 0
 MaybeCommaList = p.MaybeCommaList (is_sign sign.Comma)
 
 -- item (lead ',' n item)*
-abbrev pub Several : {A : Type 0} → (Unit {0} → List Token → List Token → Type 0) → (A → List Token → List Token → Type 0) → List A → List Token → List Token → Type 0
+abbrev pub Several : {A : Type 0} → (Unit {0} → List Token → List Token → Type 0)
+    → (A → List Token → List Token → Type 0) → List A → List Token → List Token → Type 0
 Several Lead = p.Several Lead (is_sign sign.Comma) is_new_line
 
 -- sep? (item (sep item)*)? sep? close, with the closing token
-abbrev pub Items : {A : Type 0} → (Token → Bool) → (A → List Token → List Token → Type 0) → List A × Token → List Token → List Token → Type 0
+abbrev pub Items : {A : Type 0} → (Token → Bool) → (A → List Token → List Token → Type 0) → List A × Token → List Token
+    → List Token → Type 0
 Items = p.Items is_separator
 
 -- no line ends

@@ -14,7 +14,8 @@ OneSourceRefusal = (source : List ℕ) (r s : Refusal) → IsRefused source r �
 
 -- a source that has a tree isn't refused
 abbrev pub TreeExcludesRefusal : Type 0
-TreeExcludesRefusal = (source : List ℕ) (file : List DeclarationTree) (r : Refusal) → IsTreeOf source file → IsRefused source r → ⊥
+TreeExcludesRefusal = (source : List ℕ) (file : List DeclarationTree) (r : Refusal) → IsTreeOf source file
+    → IsRefused source r → ⊥
 
 -- a source has a tree or is refused: with the laws above, it has one tree or one refusal, and not both
 abbrev pub TreeOrRefusal : Type 0

@@ -18,9 +18,11 @@ use std::alloc::Global;
 /// UTF-8, or a character begins no token; Syntax at the first token that extends no prefix of a file's tokens.
 pub fn read_source(alloc: Global, bytes: &[u8]) -> Result<FileTree, FrontErr>
     ensures read { IfOk result (λ tree. IsTreeOf bytes.now (file_tree tree)) }
-    ensures only { (file : List DeclarationTree) → IsTreeOf bytes.now file → MatchResult result (λ tree. file_tree tree ≡ file) (λ e. e ≡ front_err.NoMemory) }
+    ensures only { (file : List DeclarationTree) → IsTreeOf bytes.now file
+        → MatchResult result (λ tree. file_tree tree ≡ file) (λ e. e ≡ front_err.NoMemory) }
     ensures refused { (r : Refusal) → result ≡ Err (front_err.Refused r) → IsRefused bytes.now r }
-    ensures refuses { (r : Refusal) → IsRefused bytes.now r → MatchResult result (λ tree. ⊥) (λ e. (e ≡ front_err.Refused r) ⊎ (e ≡ front_err.NoMemory)) }
+    ensures refuses { (r : Refusal) → IsRefused bytes.now r
+        → MatchResult result (λ tree. ⊥) (λ e. (e ≡ front_err.Refused r) ⊎ (e ≡ front_err.NoMemory)) }
 {
     let tokens = lex_bytes(alloc, bytes)?;
     parse(alloc, tokens.as_slice())

@@ -22,9 +22,11 @@ use std::alloc::Global;
 pub fn parse(alloc: Global, tokens: &[Token]) -> Result<FileTree, FrontErr>
     requires { ends_alone tokens.now ≡ true }
     ensures parsed { IfOk result (λ tree. IsFileOf tokens.now (file_tree tree)) }
-    ensures only { (file : List DeclarationTree) → IsFileOf tokens.now file → MatchResult result (λ tree. file_tree tree ≡ file) (λ e. e ≡ front_err.NoMemory) }
+    ensures only { (file : List DeclarationTree) → IsFileOf tokens.now file
+        → MatchResult result (λ tree. file_tree tree ≡ file) (λ e. e ≡ front_err.NoMemory) }
     ensures refused { (r : Refusal) → result ≡ Err (front_err.Refused r) → IsSyntaxRefused tokens.now r }
-    ensures refuses { (r : Refusal) → IsSyntaxRefused tokens.now r → MatchResult result (λ tree. ⊥) (λ e. (e ≡ front_err.Refused r) ⊎ (e ≡ front_err.NoMemory)) }
+    ensures refuses { (r : Refusal) → IsSyntaxRefused tokens.now r
+        → MatchResult result (λ tree. ⊥) (λ e. (e ≡ front_err.Refused r) ⊎ (e ≡ front_err.NoMemory)) }
 {
     let mut cursor = Tokens::new(tokens);
     match read_file(alloc, &mut cursor) {

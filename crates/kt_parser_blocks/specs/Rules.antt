@@ -71,7 +71,8 @@ module _ (n : ℕ) (at : Context) where
   else_body t a b = (parsers n).body at >>= (λ c. pure (e.if_else t.pos a b (e.some_body c)))
 
   abbrev pub else_rest : Token → ExpressionTree → BodyTree → Parser Token ExpressionTree
-  else_rest t a b = attempt (p.else_word (suc n) (parsers n) at) (λ _. else_body t a b) (pure (e.if_else t.pos a b e.no_body))
+  else_rest t a b = attempt (p.else_word (suc n) (parsers n) at) (λ _. else_body t a b)
+      (pure (e.if_else t.pos a b e.no_body))
 
   abbrev pub if_rest : Token → Parser Token ExpressionTree
   if_rest = p.if_rest (suc n) (parsers n) at
@@ -99,7 +100,8 @@ module _ (n : ℕ) (at : Context) where
 
   -- the entries of a `when`, and the `}`
   abbrev pub entries_rest : Token → Option ExpressionTree → Parser Token ExpressionTree
-  entries_rest t a = separated (is_sign sign.CloseBrace) ((parsers n).entry at (is_some a)) >>= (λ es. pure (e.when t.pos (e.maybe_expression a) (e.entries_of es.0)))
+  entries_rest t a = separated (is_sign sign.CloseBrace) ((parsers n).entry at (is_some a))
+      >>= (λ es. pure (e.when t.pos (e.maybe_expression a) (e.entries_of es.0)))
 
   abbrev pub when_rest : Token → Parser Token ExpressionTree
   when_rest = p.when_rest (suc n) (parsers n) at
@@ -119,10 +121,13 @@ module _ (n : ℕ) (at : Context) where
   catches = repeat catch_turn []
 
   abbrev pub finally_block : Token → BlockTree → List CatchTree → Parser Token ExpressionTree
-  finally_block t b cs = p.block_rest ((parsers n).statement at) >>= (λ f. pure (e.try_catch t.pos b (e.catches_of cs) (e.some_block f)))
+  finally_block t b cs = p.block_rest ((parsers n).statement at)
+      >>= (λ f. pure (e.try_catch t.pos b (e.catches_of cs) (e.some_block f)))
 
   abbrev pub finally_rest : Token → BlockTree → List CatchTree → Parser Token ExpressionTree
-  finally_rest t b cs = attempt (p.finally_head (suc n) (parsers n) at) (λ _. finally_block t b cs) (p.no_finally (suc n) (parsers n) at t.pos b cs)
+  finally_rest t b cs =
+      attempt (p.finally_head (suc n) (parsers n) at) (λ _. finally_block t b cs)
+      (p.no_finally (suc n) (parsers n) at t.pos b cs)
 
   abbrev pub try_rest : Token → Parser Token ExpressionTree
   try_rest = p.try_rest (suc n) (parsers n) at
@@ -142,7 +147,8 @@ abbrev pub else_word : Parser Token (Unit {0})
 else_word = else_keyword >> (lines >> ahead is_no_arrow)
 
 abbrev pub catch_head : Parser Token Token
-catch_head = lines >> (token (is_soft_keyword soft.Catch) >> (expect sign.OpenParenthesis >> (token is_identifier >>= (λ x. expect sign.Colon >> pure x))))
+catch_head = lines >> (token (is_soft_keyword soft.Catch)
+    >> (expect sign.OpenParenthesis >> (token is_identifier >>= (λ x. expect sign.Colon >> pure x))))
 
 abbrev pub finally_head : Parser Token Token
 finally_head = lines >> (token (is_soft_keyword soft.Finally) >> (lines >> expect sign.OpenBrace))

@@ -67,7 +67,8 @@ impl<
         at: Context,
         tokens: &mut Tokens<'_>,
     ) -> Result<Expression, ParseError>
-        requires { AreRead self.now.room (E.pre self.now.expression) (E.post self.now.expression) (S.pre self.now.statement) (S.post self.now.statement) }
+        requires { AreRead self.now.room (E.pre self.now.expression) (E.post self.now.expression)
+            (S.pre self.now.statement) (S.post self.now.statement) }
         ensures { ReadsAs expression_tree (expression precedence self.now.room at tokens.old) result tokens.new }
     {
         (self.expression)(self.alloc, self.room, precedence, at, tokens)
@@ -79,7 +80,8 @@ impl<
         at: Context,
         tokens: &mut Tokens<'_>,
     ) -> Result<Statement, ParseError>
-        requires { AreRead self.now.room (E.pre self.now.expression) (E.post self.now.expression) (S.pre self.now.statement) (S.post self.now.statement) }
+        requires { AreRead self.now.room (E.pre self.now.expression) (E.post self.now.expression)
+            (S.pre self.now.statement) (S.post self.now.statement) }
         ensures { ReadsAs statement_tree ((parsers self.now.room).statement at tokens.old) result tokens.new }
     {
         (self.statement)(self.alloc, self.room, at, tokens)
@@ -87,10 +89,12 @@ impl<
 
     /// The parser of the phrases one level lower, which are those of at most `room` levels.
     pub fn lower(&self) -> Below<E, S>
-        requires below { AreRead self.now.room (E.pre self.now.expression) (E.post self.now.expression) (S.pre self.now.statement) (S.post self.now.statement) }
+        requires below { AreRead self.now.room (E.pre self.now.expression) (E.post self.now.expression)
+            (S.pre self.now.statement) (S.post self.now.statement) }
         requires level { 0 < self.now.room }
         ensures room { result.room + 1 ≡ self.now.room }
-        ensures reads { AreRead result.room (E.pre result.expression) (E.post result.expression) (S.pre result.statement) (S.post result.statement) }
+        ensures reads { AreRead result.room (E.pre result.expression) (E.post result.expression)
+            (S.pre result.statement) (S.post result.statement) }
     {
         Below {
             room: self.room - 1,
@@ -107,7 +111,8 @@ impl<
 
     /// Whether there is room for a level above the expression.
     pub fn has_room(&self, value: &Expression) -> bool
-        requires { AreRead self.now.room (E.pre self.now.expression) (E.post self.now.expression) (S.pre self.now.statement) (S.post self.now.statement) }
+        requires { AreRead self.now.room (E.pre self.now.expression) (E.post self.now.expression)
+            (S.pre self.now.statement) (S.post self.now.statement) }
         ensures { result ≡ has_room self.now.room (expression_tree value.now) }
     {
         value.levels() <= self.room

@@ -66,7 +66,8 @@ impl<
         at: Context,
         tokens: &mut Tokens<'_>,
     ) -> Result<Expression, ParseError>
-        requires { AreRead self.now.room (E.pre self.now.expression) (E.post self.now.expression) (S.pre self.now.statement) (S.post self.now.statement) }
+        requires { AreRead self.now.room (E.pre self.now.expression) (E.post self.now.expression)
+            (S.pre self.now.statement) (S.post self.now.statement) }
         ensures { ReadsAs expression_tree (rules.if_rest self.now.room at start.now tokens.old) result tokens.new }
     {
         expect(tokens, Sign::OpenParenthesis)?;
@@ -86,8 +87,11 @@ impl<
         then: ControlStructureBody,
         tokens: &mut Tokens<'_>,
     ) -> Result<Expression, ParseError>
-        requires { AreRead self.now.room (E.pre self.now.expression) (E.post self.now.expression) (S.pre self.now.statement) (S.post self.now.statement) }
-        ensures { ReadsAs expression_tree (rules.else_rest self.now.room at start.now (expression_tree condition) (body_tree then) tokens.old) result tokens.new }
+        requires { AreRead self.now.room (E.pre self.now.expression) (E.post self.now.expression)
+            (S.pre self.now.statement) (S.post self.now.statement) }
+        ensures { ReadsAs expression_tree
+            (rules.else_rest self.now.room at start.now (expression_tree condition) (body_tree then) tokens.old)
+            result tokens.new }
     {
         let word = attempt_if(true, tokens, &|tokens: &mut Tokens<'_>| else_word(tokens))?;
         match word {
@@ -105,8 +109,11 @@ impl<
         then: ControlStructureBody,
         tokens: &mut Tokens<'_>,
     ) -> Result<Expression, ParseError>
-        requires { AreRead self.now.room (E.pre self.now.expression) (E.post self.now.expression) (S.pre self.now.statement) (S.post self.now.statement) }
-        ensures { ReadsAs expression_tree (rules.else_body self.now.room at start.now (expression_tree condition) (body_tree then) tokens.old) result tokens.new }
+        requires { AreRead self.now.room (E.pre self.now.expression) (E.post self.now.expression)
+            (S.pre self.now.statement) (S.post self.now.statement) }
+        ensures { ReadsAs expression_tree
+            (rules.else_body self.now.room at start.now (expression_tree condition) (body_tree then) tokens.old)
+            result tokens.new }
     {
         let other = self.inner_body(at, tokens)?;
         Ok(if_else(self.alloc, start.pos, condition, then, Some(other))?)
@@ -118,7 +125,8 @@ impl<
         at: Context,
         tokens: &mut Tokens<'_>,
     ) -> Result<Option<Expression>, ParseError>
-        requires { AreRead self.now.room (E.pre self.now.expression) (E.post self.now.expression) (S.pre self.now.statement) (S.post self.now.statement) }
+        requires { AreRead self.now.room (E.pre self.now.expression) (E.post self.now.expression)
+            (S.pre self.now.statement) (S.post self.now.statement) }
         ensures { ReadsAs (option_map expression_tree) (rules.subject self.now.room at tokens.old) result tokens.new }
     {
         match sign_if(self.is_deep(), tokens, Sign::OpenParenthesis) {
@@ -132,8 +140,10 @@ impl<
         at: Context,
         tokens: &mut Tokens<'_>,
     ) -> Result<Option<Expression>, ParseError>
-        requires { AreRead self.now.room (E.pre self.now.expression) (E.post self.now.expression) (S.pre self.now.statement) (S.post self.now.statement) }
-        ensures { ReadsAs (option_map expression_tree) (rules.subject_rest self.now.room at tokens.old) result tokens.new }
+        requires { AreRead self.now.room (E.pre self.now.expression) (E.post self.now.expression)
+            (S.pre self.now.statement) (S.post self.now.statement) }
+        ensures { ReadsAs (option_map expression_tree) (rules.subject_rest self.now.room at tokens.old)
+            result tokens.new }
     {
         let subject = self.inner_expression(Precedence::Disjunction, at, tokens)?;
         expect(tokens, Sign::CloseParenthesis)?;
@@ -147,7 +157,8 @@ impl<
         at: Context,
         tokens: &mut Tokens<'_>,
     ) -> Result<Expression, ParseError>
-        requires { AreRead self.now.room (E.pre self.now.expression) (E.post self.now.expression) (S.pre self.now.statement) (S.post self.now.statement) }
+        requires { AreRead self.now.room (E.pre self.now.expression) (E.post self.now.expression)
+            (S.pre self.now.statement) (S.post self.now.statement) }
         ensures { ReadsAs expression_tree (rules.when_rest self.now.room at start.now tokens.old) result tokens.new }
     {
         let subject = self.subject(at, tokens)?;
@@ -164,8 +175,11 @@ impl<
         subject: Option<Expression>,
         tokens: &mut Tokens<'_>,
     ) -> Result<Expression, ParseError>
-        requires { AreRead self.now.room (E.pre self.now.expression) (E.post self.now.expression) (S.pre self.now.statement) (S.post self.now.statement) }
-        ensures { ReadsAs expression_tree (rules.entries_rest self.now.room at start.now (option_map expression_tree subject) tokens.old) result tokens.new }
+        requires { AreRead self.now.room (E.pre self.now.expression) (E.post self.now.expression)
+            (S.pre self.now.statement) (S.post self.now.statement) }
+        ensures { ReadsAs expression_tree
+            (rules.entries_rest self.now.room at start.now (option_map expression_tree subject) tokens.old)
+            result tokens.new }
     {
         let has_subject = subject.is_some();
         let (entries, _) = separated(
@@ -184,7 +198,8 @@ impl<
         has_subject: bool,
         tokens: &mut Tokens<'_>,
     ) -> Result<WhenEntry, ParseError>
-        requires { AreRead self.now.room (E.pre self.now.expression) (E.post self.now.expression) (S.pre self.now.statement) (S.post self.now.statement) }
+        requires { AreRead self.now.room (E.pre self.now.expression) (E.post self.now.expression)
+            (S.pre self.now.statement) (S.post self.now.statement) }
         ensures { ReadsAs entry_tree ((parsers self.now.room).entry at has_subject tokens.old) result tokens.new }
     {
         if self.room <= 1 {
@@ -200,7 +215,8 @@ impl<
         has_subject: bool,
         tokens: &mut Tokens<'_>,
     ) -> Result<WhenEntry, ParseError>
-        requires { AreRead self.now.room (E.pre self.now.expression) (E.post self.now.expression) (S.pre self.now.statement) (S.post self.now.statement) }
+        requires { AreRead self.now.room (E.pre self.now.expression) (E.post self.now.expression)
+            (S.pre self.now.statement) (S.post self.now.statement) }
         ensures { ReadsAs entry_tree (rules.entry self.now.room at has_subject tokens.old) result tokens.new }
     {
         let conditions = self.entry_head(at, has_subject, tokens)?;
@@ -218,8 +234,10 @@ impl<
         has_subject: bool,
         tokens: &mut Tokens<'_>,
     ) -> Result<Items<WhenCondition>, ParseError>
-        requires { AreRead self.now.room (E.pre self.now.expression) (E.post self.now.expression) (S.pre self.now.statement) (S.post self.now.statement) }
-        ensures { ReadsAs (map condition_tree) (rules.entry_head self.now.room at has_subject tokens.old) result tokens.new }
+        requires { AreRead self.now.room (E.pre self.now.expression) (E.post self.now.expression)
+            (S.pre self.now.statement) (S.post self.now.statement) }
+        ensures { ReadsAs (map condition_tree) (rules.entry_head self.now.room at has_subject tokens.old)
+            result tokens.new }
     {
         match tokens.take_keyword(Keyword::Else) {
             Some(_) => Ok(Items::new(self.alloc)),
@@ -239,8 +257,10 @@ impl<
         has_subject: bool,
         tokens: &mut Tokens<'_>,
     ) -> Result<WhenCondition, ParseError>
-        requires { AreRead self.now.room (E.pre self.now.expression) (E.post self.now.expression) (S.pre self.now.statement) (S.post self.now.statement) }
-        ensures { ReadsAs condition_tree ((parsers self.now.room).condition at has_subject tokens.old) result tokens.new }
+        requires { AreRead self.now.room (E.pre self.now.expression) (E.post self.now.expression)
+            (S.pre self.now.statement) (S.post self.now.statement) }
+        ensures { ReadsAs condition_tree ((parsers self.now.room).condition at has_subject tokens.old)
+            result tokens.new }
     {
         if self.room == 0 {
             return Err(tokens.refuse());
@@ -255,7 +275,8 @@ impl<
         has_subject: bool,
         tokens: &mut Tokens<'_>,
     ) -> Result<WhenCondition, ParseError>
-        requires { AreRead self.now.room (E.pre self.now.expression) (E.post self.now.expression) (S.pre self.now.statement) (S.post self.now.statement) }
+        requires { AreRead self.now.room (E.pre self.now.expression) (E.post self.now.expression)
+            (S.pre self.now.statement) (S.post self.now.statement) }
         ensures { ReadsAs condition_tree (rules.condition self.now.room at has_subject tokens.old) result tokens.new }
     {
         match take_type_check(has_subject, tokens) {
@@ -269,7 +290,8 @@ impl<
         negated: bool,
         tokens: &mut Tokens<'_>,
     ) -> Result<WhenCondition, ParseError>
-        requires { AreRead self.now.room (E.pre self.now.expression) (E.post self.now.expression) (S.pre self.now.statement) (S.post self.now.statement) }
+        requires { AreRead self.now.room (E.pre self.now.expression) (E.post self.now.expression)
+            (S.pre self.now.statement) (S.post self.now.statement) }
         ensures { ReadsAs condition_tree (rules.type_condition self.now.room negated tokens.old) result tokens.new }
     {
         let written = read_type(self.alloc, self.room + 1, tokens)?;
@@ -281,7 +303,8 @@ impl<
         at: Context,
         tokens: &mut Tokens<'_>,
     ) -> Result<WhenCondition, ParseError>
-        requires { AreRead self.now.room (E.pre self.now.expression) (E.post self.now.expression) (S.pre self.now.statement) (S.post self.now.statement) }
+        requires { AreRead self.now.room (E.pre self.now.expression) (E.post self.now.expression)
+            (S.pre self.now.statement) (S.post self.now.statement) }
         ensures { ReadsAs condition_tree (rules.equals_condition self.now.room at tokens.old) result tokens.new }
     {
         let value = self.inner_expression(Precedence::Disjunction, at, tokens)?;

@@ -30,8 +30,10 @@ impl<
         at: Context,
         tokens: &mut Tokens<'_>,
     ) -> Result<Block, ParseError>
-        requires { AreRead self.now.room (E.pre self.now.expression) (E.post self.now.expression) (S.pre self.now.statement) (S.post self.now.statement) }
-        ensures { ReadsAs block_tree (parser.block_rest ((parsers self.now.room).statement at) tokens.old) result tokens.new }
+        requires { AreRead self.now.room (E.pre self.now.expression) (E.post self.now.expression)
+            (S.pre self.now.statement) (S.post self.now.statement) }
+        ensures { ReadsAs block_tree (parser.block_rest ((parsers self.now.room).statement at) tokens.old)
+            result tokens.new }
     {
         let (statements, end) = separated(
             self.alloc,
@@ -44,8 +46,10 @@ impl<
 
     /// `'{' statements '}'`
     pub fn block(&self, at: Context, tokens: &mut Tokens<'_>) -> Result<Block, ParseError>
-        requires { AreRead self.now.room (E.pre self.now.expression) (E.post self.now.expression) (S.pre self.now.statement) (S.post self.now.statement) }
-        ensures { ReadsAs block_tree (parser.block_of ((parsers self.now.room).statement at) tokens.old) result tokens.new }
+        requires { AreRead self.now.room (E.pre self.now.expression) (E.post self.now.expression)
+            (S.pre self.now.statement) (S.post self.now.statement) }
+        ensures { ReadsAs block_tree (parser.block_of ((parsers self.now.room).statement at) tokens.old)
+            result tokens.new }
     {
         expect(tokens, Sign::OpenBrace)?;
         self.block_rest(at, tokens)
@@ -57,7 +61,8 @@ impl<
         at: Context,
         tokens: &mut Tokens<'_>,
     ) -> Result<ControlStructureBody, ParseError>
-        requires { AreRead self.now.room (E.pre self.now.expression) (E.post self.now.expression) (S.pre self.now.statement) (S.post self.now.statement) }
+        requires { AreRead self.now.room (E.pre self.now.expression) (E.post self.now.expression)
+            (S.pre self.now.statement) (S.post self.now.statement) }
         ensures { ReadsAs body_tree ((parsers self.now.room).body at tokens.old) result tokens.new }
     {
         if self.room == 0 {
@@ -67,7 +72,8 @@ impl<
     }
 
     fn body(&self, at: Context, tokens: &mut Tokens<'_>) -> Result<ControlStructureBody, ParseError>
-        requires { AreRead self.now.room (E.pre self.now.expression) (E.post self.now.expression) (S.pre self.now.statement) (S.post self.now.statement) }
+        requires { AreRead self.now.room (E.pre self.now.expression) (E.post self.now.expression)
+            (S.pre self.now.statement) (S.post self.now.statement) }
         ensures { ReadsAs body_tree (rules.body_over self.now.room at tokens.old) result tokens.new }
     {
         match tokens.take_sign(Sign::OpenBrace) {
@@ -82,7 +88,8 @@ impl<
         at: Context,
         tokens: &mut Tokens<'_>,
     ) -> Result<ControlStructureBody, ParseError>
-        requires { AreRead self.now.room (E.pre self.now.expression) (E.post self.now.expression) (S.pre self.now.statement) (S.post self.now.statement) }
+        requires { AreRead self.now.room (E.pre self.now.expression) (E.post self.now.expression)
+            (S.pre self.now.statement) (S.post self.now.statement) }
         ensures { ReadsAs body_tree (rules.braced_body self.now.room at tokens.old) result tokens.new }
     {
         let block = self.block_rest(at, tokens)?;
@@ -94,7 +101,8 @@ impl<
         at: Context,
         tokens: &mut Tokens<'_>,
     ) -> Result<ControlStructureBody, ParseError>
-        requires { AreRead self.now.room (E.pre self.now.expression) (E.post self.now.expression) (S.pre self.now.statement) (S.post self.now.statement) }
+        requires { AreRead self.now.room (E.pre self.now.expression) (E.post self.now.expression)
+            (S.pre self.now.statement) (S.post self.now.statement) }
         ensures { ReadsAs body_tree (rules.single_body self.now.room at tokens.old) result tokens.new }
     {
         let statement = self.inner_statement(at, tokens)?;
@@ -107,7 +115,8 @@ impl<
         start: &Token,
         tokens: &mut Tokens<'_>,
     ) -> Result<Expression, ParseError>
-        requires { AreRead self.now.room (E.pre self.now.expression) (E.post self.now.expression) (S.pre self.now.statement) (S.post self.now.statement) }
+        requires { AreRead self.now.room (E.pre self.now.expression) (E.post self.now.expression)
+            (S.pre self.now.statement) (S.post self.now.statement) }
         ensures { ReadsAs expression_tree (rules.lambda_rest self.now.room start.now tokens.old) result tokens.new }
     {
         tokens.skip_lines();
@@ -121,7 +130,8 @@ impl<
         &self,
         tokens: &mut Tokens<'_>,
     ) -> Result<Items<LambdaParameter>, ParseError>
-        requires { AreRead self.now.room (E.pre self.now.expression) (E.post self.now.expression) (S.pre self.now.statement) (S.post self.now.statement) }
+        requires { AreRead self.now.room (E.pre self.now.expression) (E.post self.now.expression)
+            (S.pre self.now.statement) (S.post self.now.statement) }
         ensures { ReadsAs (map parameter_tree) (rules.lambda_parameters self.now.room tokens.old) result tokens.new }
     {
         let parameters = attempt_if(
@@ -137,7 +147,8 @@ impl<
 
     /// `parameters '->'`
     fn lambda_head(&self, tokens: &mut Tokens<'_>) -> Result<Items<LambdaParameter>, ParseError>
-        requires { AreRead self.now.room (E.pre self.now.expression) (E.post self.now.expression) (S.pre self.now.statement) (S.post self.now.statement) }
+        requires { AreRead self.now.room (E.pre self.now.expression) (E.post self.now.expression)
+            (S.pre self.now.statement) (S.post self.now.statement) }
         ensures { ReadsAs (map parameter_tree) (rules.lambda_head self.now.room tokens.old) result tokens.new }
     {
         let parameters = several(
@@ -153,7 +164,8 @@ impl<
 
     /// `ID (':' type)?`
     fn lambda_parameter(&self, tokens: &mut Tokens<'_>) -> Result<LambdaParameter, ParseError>
-        requires { AreRead self.now.room (E.pre self.now.expression) (E.post self.now.expression) (S.pre self.now.statement) (S.post self.now.statement) }
+        requires { AreRead self.now.room (E.pre self.now.expression) (E.post self.now.expression)
+            (S.pre self.now.statement) (S.post self.now.statement) }
         ensures { ReadsAs parameter_tree ((parsers self.now.room).parameter tokens.old) result tokens.new }
     {
         if self.room == 0 {
@@ -177,7 +189,8 @@ impl<
         at: Context,
         tokens: &mut Tokens<'_>,
     ) -> Result<Expression, ParseError>
-        requires { AreRead self.now.room (E.pre self.now.expression) (E.post self.now.expression) (S.pre self.now.statement) (S.post self.now.statement) }
+        requires { AreRead self.now.room (E.pre self.now.expression) (E.post self.now.expression)
+            (S.pre self.now.statement) (S.post self.now.statement) }
         ensures { ReadsAs expression_tree ((parsers self.now.room).lambda at tokens.old) result tokens.new }
     {
         if self.room == 0 {
@@ -187,7 +200,8 @@ impl<
     }
 
     fn lambda(&self, tokens: &mut Tokens<'_>) -> Result<Expression, ParseError>
-        requires { AreRead self.now.room (E.pre self.now.expression) (E.post self.now.expression) (S.pre self.now.statement) (S.post self.now.statement) }
+        requires { AreRead self.now.room (E.pre self.now.expression) (E.post self.now.expression)
+            (S.pre self.now.statement) (S.post self.now.statement) }
         ensures { ReadsAs expression_tree (rules.lambda self.now.room tokens.old) result tokens.new }
     {
         let open = expect(tokens, Sign::OpenBrace)?;

@@ -56,7 +56,8 @@ impl<
         at: Context,
         tokens: &mut Tokens<'_>,
     ) -> Result<Expression, ParseError>
-        requires { AreRead self.now.room (E.pre self.now.expression) (E.post self.now.expression) (S.pre self.now.statement) (S.post self.now.statement) }
+        requires { AreRead self.now.room (E.pre self.now.expression) (E.post self.now.expression)
+            (S.pre self.now.statement) (S.post self.now.statement) }
         ensures { ReadsAs expression_tree (rules.try_rest self.now.room at start.now tokens.old) result tokens.new }
     {
         tokens.skip_lines();
@@ -67,7 +68,8 @@ impl<
 
     /// As many `catch` blocks as there are.
     fn catches(&self, at: Context, tokens: &mut Tokens<'_>) -> Result<Items<CatchBlock>, ParseError>
-        requires { AreRead self.now.room (E.pre self.now.expression) (E.post self.now.expression) (S.pre self.now.statement) (S.post self.now.statement) }
+        requires { AreRead self.now.room (E.pre self.now.expression) (E.post self.now.expression)
+            (S.pre self.now.statement) (S.post self.now.statement) }
         ensures { ReadsAs (map catch_tree) (rules.catches self.now.room at tokens.old) result tokens.new }
     {
         repeat(
@@ -85,8 +87,10 @@ impl<
         catches: Items<CatchBlock>,
         tokens: &mut Tokens<'_>,
     ) -> Result<Turn<Items<CatchBlock>, Items<CatchBlock>>, ParseError>
-        requires { AreRead self.now.room (E.pre self.now.expression) (E.post self.now.expression) (S.pre self.now.statement) (S.post self.now.statement) }
-        ensures { ReadsAs (turn_tree (map catch_tree) (map catch_tree)) (rules.catch_turn self.now.room at (map catch_tree catches) tokens.old) result tokens.new }
+        requires { AreRead self.now.room (E.pre self.now.expression) (E.post self.now.expression)
+            (S.pre self.now.statement) (S.post self.now.statement) }
+        ensures { ReadsAs (turn_tree (map catch_tree) (map catch_tree))
+            (rules.catch_turn self.now.room at (map catch_tree catches) tokens.old) result tokens.new }
     {
         let head = attempt_if(self.is_deep(), tokens, &catch_head)?;
         match head {
@@ -102,8 +106,10 @@ impl<
         token: &Token,
         tokens: &mut Tokens<'_>,
     ) -> Result<Turn<Items<CatchBlock>, Items<CatchBlock>>, ParseError>
-        requires { AreRead self.now.room (E.pre self.now.expression) (E.post self.now.expression) (S.pre self.now.statement) (S.post self.now.statement) }
-        ensures { ReadsAs (turn_tree (map catch_tree) (map catch_tree)) (rules.catch_more self.now.room at (map catch_tree catches) token.now tokens.old) result tokens.new }
+        requires { AreRead self.now.room (E.pre self.now.expression) (E.post self.now.expression)
+            (S.pre self.now.statement) (S.post self.now.statement) }
+        ensures { ReadsAs (turn_tree (map catch_tree) (map catch_tree))
+            (rules.catch_more self.now.room at (map catch_tree catches) token.now tokens.old) result tokens.new }
     {
         let name = name_of(self.alloc, token)?;
         let next = self.inner_catch(at, name, tokens)?;
@@ -118,7 +124,8 @@ impl<
         name: Name,
         tokens: &mut Tokens<'_>,
     ) -> Result<CatchBlock, ParseError>
-        requires { AreRead self.now.room (E.pre self.now.expression) (E.post self.now.expression) (S.pre self.now.statement) (S.post self.now.statement) }
+        requires { AreRead self.now.room (E.pre self.now.expression) (E.post self.now.expression)
+            (S.pre self.now.statement) (S.post self.now.statement) }
         ensures { ReadsAs catch_tree ((parsers self.now.room).catch at name tokens.old) result tokens.new }
     {
         if self.room == 0 {
@@ -133,7 +140,8 @@ impl<
         name: Name,
         tokens: &mut Tokens<'_>,
     ) -> Result<CatchBlock, ParseError>
-        requires { AreRead self.now.room (E.pre self.now.expression) (E.post self.now.expression) (S.pre self.now.statement) (S.post self.now.statement) }
+        requires { AreRead self.now.room (E.pre self.now.expression) (E.post self.now.expression)
+            (S.pre self.now.statement) (S.post self.now.statement) }
         ensures { ReadsAs catch_tree (rules.catch_rest self.now.room at name tokens.old) result tokens.new }
     {
         let exception = read_type(self.alloc, self.room + 1, tokens)?;
@@ -152,8 +160,11 @@ impl<
         catches: Items<CatchBlock>,
         tokens: &mut Tokens<'_>,
     ) -> Result<Expression, ParseError>
-        requires { AreRead self.now.room (E.pre self.now.expression) (E.post self.now.expression) (S.pre self.now.statement) (S.post self.now.statement) }
-        ensures { ReadsAs expression_tree (rules.finally_rest self.now.room at start.now (block_tree block) (map catch_tree catches) tokens.old) result tokens.new }
+        requires { AreRead self.now.room (E.pre self.now.expression) (E.post self.now.expression)
+            (S.pre self.now.statement) (S.post self.now.statement) }
+        ensures { ReadsAs expression_tree
+            (rules.finally_rest self.now.room at start.now (block_tree block) (map catch_tree catches) tokens.old)
+            result tokens.new }
     {
         let head = attempt_if(true, tokens, &finally_head)?;
         match head {
@@ -171,8 +182,11 @@ impl<
         catches: Items<CatchBlock>,
         tokens: &mut Tokens<'_>,
     ) -> Result<Expression, ParseError>
-        requires { AreRead self.now.room (E.pre self.now.expression) (E.post self.now.expression) (S.pre self.now.statement) (S.post self.now.statement) }
-        ensures { ReadsAs expression_tree (rules.finally_block self.now.room at start.now (block_tree block) (map catch_tree catches) tokens.old) result tokens.new }
+        requires { AreRead self.now.room (E.pre self.now.expression) (E.post self.now.expression)
+            (S.pre self.now.statement) (S.post self.now.statement) }
+        ensures { ReadsAs expression_tree
+            (rules.finally_block self.now.room at start.now (block_tree block) (map catch_tree catches) tokens.old)
+            result tokens.new }
     {
         let last = self.block_rest(at, tokens)?;
         Ok(try_catch(start.pos, block, catches, Some(last)))
@@ -186,7 +200,8 @@ fn without_finally(
     catches: Items<CatchBlock>,
     tokens: &mut Tokens<'_>,
 ) -> Result<Expression, ParseError>
-    ensures { ReadsAs expression_tree (rules.without_finally start.now (block_tree block) (map catch_tree catches) tokens.old) result tokens.new }
+    ensures { ReadsAs expression_tree
+        (rules.without_finally start.now (block_tree block) (map catch_tree catches) tokens.old) result tokens.new }
 {
     if catches.is_empty() {
         return Err(tokens.refuse());

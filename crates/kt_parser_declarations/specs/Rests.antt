@@ -43,7 +43,8 @@ abbrev pub fun_turn : Modified FunctionModifiers → Parser Token (Modified Func
 fun_turn m = token (is_keyword word.Fun) >>= (λ t. pure (inr (start_of m.start t, m.modifiers)))
 
 -- 'class', behind these modifiers
-abbrev pub class_keyword_turn : Modified ClassModifiers → Parser Token (Modified ClassModifiers ⊎ (Pos × ClassModifiers))
+abbrev pub class_keyword_turn : Modified ClassModifiers
+    → Parser Token (Modified ClassModifiers ⊎ (Pos × ClassModifiers))
 class_keyword_turn m = token (is_keyword word.Class) >>= (λ t. pure (inr (start_of m.start t, m.modifiers)))
 
 -- ---- parameters
@@ -69,7 +70,8 @@ braces_body = lines >> (block_of (top.statement outside) >>= (λ b. pure (d.brac
 
 -- behind '('
 abbrev pub super_arguments_rest : Token → Parser Token (Option SuperArgumentsTree)
-super_arguments_rest open_ = maybe_commas (is_sign sign.CloseParenthesis) (top.disjunction outside) >>= (λ es. pure (Some (record { at = arguments_at open_ es; values = es })))
+super_arguments_rest open_ = maybe_commas (is_sign sign.CloseParenthesis) (top.disjunction outside)
+    >>= (λ es. pure (Some (record { at = arguments_at open_ es; values = es })))
 
 -- ('(' args? ')')?
 abbrev pub super_arguments : Parser Token (Option SuperArgumentsTree)

@@ -34,7 +34,8 @@ use std::alloc::Global;
 
 /// `args? ')'`, behind `(`.
 fn argument_list(alloc: Global, tokens: &mut Tokens<'_>) -> Result<Items<Expression>, ParseError>
-    ensures { ReadsAs (map expression_tree) (maybe_commas (is_sign sign.CloseParenthesis) (top.disjunction outside) tokens.old) result tokens.new }
+    ensures { ReadsAs (map expression_tree)
+        (maybe_commas (is_sign sign.CloseParenthesis) (top.disjunction outside) tokens.old) result tokens.new }
 {
     maybe_comma_list(
         alloc,
@@ -178,7 +179,8 @@ fn interface_functions(
     alloc: Global,
     tokens: &mut Tokens<'_>,
 ) -> Result<Items<FunctionDeclaration>, ParseError>
-    ensures { ReadsAs (map function_tree) (parser.members (parser.function_parser in_interface) tokens.old) result tokens.new }
+    ensures { ReadsAs (map function_tree) (parser.members (parser.function_parser in_interface) tokens.old)
+        result tokens.new }
 {
     members(
         alloc,

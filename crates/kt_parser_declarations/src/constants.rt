@@ -70,7 +70,8 @@ fn text_end(
     parts: Items<TextPart>,
     tokens: &mut Tokens<'_>,
 ) -> Result<Turn<Items<TextPart>, Items<TextPart>>, ParseError>
-    ensures { ReadsAs (turn_tree (map (λ part. part)) (map (λ part. part))) (rests.text_end (map (λ part. part) parts) tokens.old) result tokens.new }
+    ensures { ReadsAs (turn_tree (map (λ part. part)) (map (λ part. part)))
+        (rests.text_end (map (λ part. part) parts) tokens.old) result tokens.new }
 {
     match tokens.take_class(TokenClass::CloseQuote) {
         Some(_) => Ok(Turn::Done(parts)),
@@ -83,7 +84,8 @@ fn text_turn(
     mut parts: Items<TextPart>,
     tokens: &mut Tokens<'_>,
 ) -> Result<Turn<Items<TextPart>, Items<TextPart>>, ParseError>
-    ensures { ReadsAs (turn_tree (map (λ part. part)) (map (λ part. part))) (parser.text_turn (map (λ part. part) parts) tokens.old) result tokens.new }
+    ensures { ReadsAs (turn_tree (map (λ part. part)) (map (λ part. part)))
+        (parser.text_turn (map (λ part. part) parts) tokens.old) result tokens.new }
 {
     let next = meant_text(tokens)?;
     match next {

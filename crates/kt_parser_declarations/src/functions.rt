@@ -42,7 +42,8 @@ fn type_parameters_in(
     scope: Scope,
     tokens: &mut Tokens<'_>,
 ) -> Result<Items<TypeParameter>, ParseError>
-    ensures { ReadsAs (map type_parameter_tree) (rests.type_parameters_in (scope_of scope) tokens.old) result tokens.new }
+    ensures { ReadsAs (map type_parameter_tree) (rests.type_parameters_in (scope_of scope) tokens.old)
+        result tokens.new }
 {
     match scope {
         Scope::AtTop => type_parameters(alloc, tokens),

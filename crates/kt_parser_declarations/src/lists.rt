@@ -23,7 +23,8 @@ pub(crate) fn items_until<T: Node + Drop, F: Fn(&mut Tokens<'_>) -> Result<T, Pa
     item: &F,
 ) -> Result<Items<T>, ParseError>
     requires { F.IsAlwaysCallable item.now }
-    ensures { (p : Parser Token T.Tree) → EachReads T.tree p (F.post item.now) → ReadsAs (map T.tree) (rests.items_until (is_of close) p tokens.old) result tokens.new }
+    ensures { (p : Parser Token T.Tree) → EachReads T.tree p (F.post item.now)
+        → ReadsAs (map T.tree) (rests.items_until (is_of close) p tokens.old) result tokens.new }
 {
     let (items, _) = separated(alloc, tokens, close, item)?;
     Ok(items)
@@ -36,7 +37,8 @@ fn supertypes_rest<T: Node + Drop, F: Fn(&mut Tokens<'_>) -> Result<T, ParseErro
     item: &F,
 ) -> Result<Items<T>, ParseError>
     requires { F.IsAlwaysCallable item.now }
-    ensures { (p : Parser Token T.Tree) → EachReads T.tree p (F.post item.now) → ReadsAs (map T.tree) (rests.supertypes_rest p tokens.old) result tokens.new }
+    ensures { (p : Parser Token T.Tree) → EachReads T.tree p (F.post item.now)
+        → ReadsAs (map T.tree) (rests.supertypes_rest p tokens.old) result tokens.new }
 {
     tokens.skip_lines();
     several(alloc, tokens, Lead::Nothing, item)
@@ -49,7 +51,8 @@ pub(crate) fn supertypes<T: Node + Drop, F: Fn(&mut Tokens<'_>) -> Result<T, Par
     item: &F,
 ) -> Result<Items<T>, ParseError>
     requires { F.IsAlwaysCallable item.now }
-    ensures { (p : Parser Token T.Tree) → EachReads T.tree p (F.post item.now) → ReadsAs (map T.tree) (parser.supertypes p tokens.old) result tokens.new }
+    ensures { (p : Parser Token T.Tree) → EachReads T.tree p (F.post item.now)
+        → ReadsAs (map T.tree) (parser.supertypes p tokens.old) result tokens.new }
 {
     match tokens.take_sign(Sign::Colon) {
         Some(_) => supertypes_rest(alloc, tokens, item),
@@ -67,7 +70,8 @@ fn open_brace<'a>(tokens: &mut Tokens<'a>) -> Result<&'a Token, ParseError>
 
 /// Takes `{` behind line ends, where it stands. Else the cursor goes back.
 fn open_brace_ahead<'a>(tokens: &mut Tokens<'a>) -> Result<Option<&'a Token>, NoMemory>
-    ensures { IfOk result (λ found. Finds (λ token. token.now) (rests.open_brace tokens.old) tokens.old found tokens.new) }
+    ensures { IfOk result
+        (λ found. Finds (λ token. token.now) (rests.open_brace tokens.old) tokens.old found tokens.new) }
 {
     attempt_if(true, tokens, &open_brace)
 }
@@ -79,7 +83,8 @@ pub(crate) fn members<T: Node + Drop, F: Fn(&mut Tokens<'_>) -> Result<T, ParseE
     item: &F,
 ) -> Result<Items<T>, ParseError>
     requires { F.IsAlwaysCallable item.now }
-    ensures { (p : Parser Token T.Tree) → EachReads T.tree p (F.post item.now) → ReadsAs (map T.tree) (parser.members p tokens.old) result tokens.new }
+    ensures { (p : Parser Token T.Tree) → EachReads T.tree p (F.post item.now)
+        → ReadsAs (map T.tree) (parser.members p tokens.old) result tokens.new }
 {
     let brace = open_brace_ahead(tokens)?;
     match brace {

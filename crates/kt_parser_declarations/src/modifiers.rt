@@ -76,7 +76,8 @@ impl<M: Copy> Modified<M> {
 
     /// These modifiers, the last of which is the token.
     fn with(self, token: &Token, modifiers: M) -> Modified<M>
-        ensures { modified_tree result ≡ record { start = grammar.first_place self.start token.now; modifiers = modifiers } }
+        ensures { modified_tree result ≡ record
+            { start = grammar.first_place self.start token.now; modifiers = modifiers } }
     {
         Modified {
             start: first_place(self.start, token),
@@ -102,7 +103,8 @@ fn fun_turn(
     so_far: Modified<FunctionModifiers>,
     tokens: &mut Tokens<'_>,
 ) -> Result<Turn<Modified<FunctionModifiers>, Opening<FunctionModifiers>>, ParseError>
-    ensures { ReadsAs (turn_tree modified_tree opening_tree) (rests.fun_turn (modified_tree so_far) tokens.old) result tokens.new }
+    ensures { ReadsAs (turn_tree modified_tree opening_tree) (rests.fun_turn (modified_tree so_far) tokens.old)
+        result tokens.new }
 {
     let keyword = expect_keyword(tokens, Keyword::Fun)?;
     Ok(Turn::Done(so_far.opening(keyword)))
@@ -113,7 +115,8 @@ fn function_turn(
     so_far: Modified<FunctionModifiers>,
     tokens: &mut Tokens<'_>,
 ) -> Result<Turn<Modified<FunctionModifiers>, Opening<FunctionModifiers>>, ParseError>
-    ensures { ReadsAs (turn_tree modified_tree opening_tree) (parser.function_turn (modified_tree so_far) tokens.old) result tokens.new }
+    ensures { ReadsAs (turn_tree modified_tree opening_tree) (parser.function_turn (modified_tree so_far) tokens.old)
+        result tokens.new }
 {
     let modifiers = so_far.modifiers;
     match soft_keyword_if(!modifiers.is_override, tokens, SoftKeyword::Override) {
@@ -175,7 +178,8 @@ fn class_keyword_turn(
     so_far: Modified<ClassModifiers>,
     tokens: &mut Tokens<'_>,
 ) -> Result<Turn<Modified<ClassModifiers>, Opening<ClassModifiers>>, ParseError>
-    ensures { ReadsAs (turn_tree modified_tree opening_tree) (rests.class_keyword_turn (modified_tree so_far) tokens.old) result tokens.new }
+    ensures { ReadsAs (turn_tree modified_tree opening_tree)
+        (rests.class_keyword_turn (modified_tree so_far) tokens.old) result tokens.new }
 {
     let keyword = expect_keyword(tokens, Keyword::Class)?;
     Ok(Turn::Done(so_far.opening(keyword)))
@@ -186,7 +190,8 @@ fn class_turn(
     so_far: Modified<ClassModifiers>,
     tokens: &mut Tokens<'_>,
 ) -> Result<Turn<Modified<ClassModifiers>, Opening<ClassModifiers>>, ParseError>
-    ensures { ReadsAs (turn_tree modified_tree opening_tree) (parser.class_turn (modified_tree so_far) tokens.old) result tokens.new }
+    ensures { ReadsAs (turn_tree modified_tree opening_tree) (parser.class_turn (modified_tree so_far) tokens.old)
+        result tokens.new }
 {
     let modifiers = so_far.modifiers;
     match soft_keyword_if(!modifiers.is_open, tokens, SoftKeyword::Open) {

@@ -36,7 +36,8 @@ fn type_parameters_rest(
     alloc: Global,
     tokens: &mut Tokens<'_>,
 ) -> Result<Items<TypeParameter>, ParseError>
-    ensures { ReadsAs (map type_parameter_tree) (commas (is_sign sign.Greater) parser.type_parameter tokens.old) result tokens.new }
+    ensures { ReadsAs (map type_parameter_tree) (commas (is_sign sign.Greater) parser.type_parameter tokens.old)
+        result tokens.new }
 {
     comma_list(
         alloc,
@@ -78,7 +79,8 @@ pub(crate) fn parameters_rest(
     alloc: Global,
     tokens: &mut Tokens<'_>,
 ) -> Result<Items<Parameter>, ParseError>
-    ensures { ReadsAs (map typed_parameter_tree) (maybe_commas (is_sign sign.CloseParenthesis) parser.typed_parameter tokens.old) result tokens.new }
+    ensures { ReadsAs (map typed_parameter_tree)
+        (maybe_commas (is_sign sign.CloseParenthesis) parser.typed_parameter tokens.old) result tokens.new }
 {
     maybe_comma_list(
         alloc,
@@ -135,7 +137,8 @@ fn constructor_parameters_rest(
     alloc: Global,
     tokens: &mut Tokens<'_>,
 ) -> Result<Items<ConstructorParameter>, ParseError>
-    ensures { ReadsAs (map constructor_parameter_tree) (maybe_commas (is_sign sign.CloseParenthesis) parser.constructor_parameter tokens.old) result tokens.new }
+    ensures { ReadsAs (map constructor_parameter_tree)
+        (maybe_commas (is_sign sign.CloseParenthesis) parser.constructor_parameter tokens.old) result tokens.new }
 {
     maybe_comma_list(
         alloc,

@@ -39,7 +39,9 @@ right_operand level.Multiplicative = precedence.Cast
 
 -- a suffix is read as what it makes of the operand before it
 abbrev pub member_suffix : Parser Token (ExpressionTree → ExpressionTree)
-member_suffix = lines >> (meant member_of >>= (λ safe. lines >> (token is_identifier >>= (λ x. pure (λ a. e.member (place a) a safe.1 (name_of x))))))
+member_suffix = lines
+    >> (meant member_of >>= (λ safe. lines
+    >> (token is_identifier >>= (λ x. pure (λ a. e.member (place a) a safe.1 (name_of x))))))
 
 abbrev pub member_sign : Parser Token Bool
 member_sign = meant member_of >>= (λ o. pure o.1)
@@ -60,7 +62,8 @@ module _ (n : ℕ) (at : Context) where
 
   -- a lambda behind the arguments in parentheses
   abbrev pub with_lambda : List ExpressionTree → Parser Token (List ExpressionTree)
-  with_lambda es = attempt_if (some_levels (parsers n).levels) ((parsers n).lambda at) (λ l. pure (es ++ l ∷ [])) (pure es)
+  with_lambda es = attempt_if (some_levels (parsers n).levels) ((parsers n).lambda at) (λ l. pure (es ++ l ∷ []))
+      (pure es)
 
   abbrev pub arguments_rest : Parser Token (List ExpressionTree)
   arguments_rest = p.arguments_rest (suc n) (parsers n) at
@@ -77,7 +80,9 @@ module _ (n : ℕ) (at : Context) where
 
   -- a suffix without type arguments
   abbrev pub plain_suffix_turn : ExpressionTree → Parser Token (ExpressionTree ⊎ ExpressionTree)
-  plain_suffix_turn a = attempt_if (p.has_call (suc n) (parsers n) at a) call_arguments (λ es. pure (inl (p.called (suc n) (parsers n) at a [] es))) (other_suffix_turn a)
+  plain_suffix_turn a =
+      attempt_if (p.has_call (suc n) (parsers n) at a) call_arguments
+      (λ es. pure (inl (p.called (suc n) (parsers n) at a [] es))) (other_suffix_turn a)
 
   abbrev pub typed_call_rest : ExpressionTree → List TypeTree → Parser Token (ExpressionTree ⊎ ExpressionTree)
   typed_call_rest a ts = call_arguments >>= (λ es. pure (inl (p.called (suc n) (parsers n) at a ts es)))
@@ -111,7 +116,8 @@ module _ (n : ℕ) (at : Context) where
   abbrev pub operand : {A : Type 0} → BinaryLevel → (ExpressionTree → A) → Parser Token A
   operand l make = lines >> (expression (right_operand l) n at >>= (λ b. pure (make b)))
 
-  abbrev pub binary_rest : BinaryLevel → BinaryOperator → ExpressionTree → Parser Token (ExpressionTree ⊎ ExpressionTree)
+  abbrev pub binary_rest : BinaryLevel → BinaryOperator → ExpressionTree
+      → Parser Token (ExpressionTree ⊎ ExpressionTree)
   binary_rest l o a = operand l (λ b. inl (e.binary (place a) o a b))
 
   -- a turn of a chain of binary operators
@@ -120,7 +126,9 @@ module _ (n : ℕ) (at : Context) where
 
   -- a comparison operator and its right operand, behind the left one
   abbrev pub comparison_behind : ExpressionTree → Parser Token ExpressionTree
-  comparison_behind a = attempt_if (has_room n a) (operator_of level.Comparison) (λ o. operand level.Comparison (λ b. e.binary (place a) o.1 a b)) (pure a)
+  comparison_behind a =
+      attempt_if (has_room n a) (operator_of level.Comparison)
+      (λ o. operand level.Comparison (λ b. e.binary (place a) o.1 a b)) (pure a)
 
   -- ---- the rows, from the one that binds most
 

@@ -54,8 +54,10 @@ impl<
         at: Context,
         tokens: &mut Tokens<'_>,
     ) -> Result<Expression, ParseError>
-        requires { AreRead self.now.below.room (E.pre self.now.below.expression) (E.post self.now.below.expression) (S.pre self.now.below.statement) (S.post self.now.below.statement) }
-        ensures { ReadsAs expression_tree (rules.whole_expression precedence self.now.below.room at tokens.old) result tokens.new }
+        requires { AreRead self.now.below.room (E.pre self.now.below.expression) (E.post self.now.below.expression)
+            (S.pre self.now.below.statement) (S.post self.now.below.statement) }
+        ensures { ReadsAs expression_tree (rules.whole_expression precedence self.now.below.room at tokens.old)
+            result tokens.new }
     {
         match precedence {
             Precedence::Disjunction => self.disjunction(at, tokens),
@@ -79,8 +81,10 @@ impl<
         left: Expression,
         tokens: &mut Tokens<'_>,
     ) -> Result<Turn<Expression, Expression>, ParseError>
-        requires { AreRead self.now.below.room (E.pre self.now.below.expression) (E.post self.now.below.expression) (S.pre self.now.below.statement) (S.post self.now.below.statement) }
-        ensures { ReadsAs (turn_tree expression_tree expression_tree) (rules.binary_turn self.now.below.room at level (expression_tree left) tokens.old) result tokens.new }
+        requires { AreRead self.now.below.room (E.pre self.now.below.expression) (E.post self.now.below.expression)
+            (S.pre self.now.below.statement) (S.post self.now.below.statement) }
+        ensures { ReadsAs (turn_tree expression_tree expression_tree)
+            (rules.binary_turn self.now.below.room at level (expression_tree left) tokens.old) result tokens.new }
     {
         let allowed = self.below.has_room(&left);
         match take_binary_operator(allowed, level, tokens) {
@@ -98,11 +102,16 @@ impl<
         left: Expression,
         tokens: &mut Tokens<'_>,
     ) -> Result<Turn<Expression, Expression>, ParseError>
-        requires { AreRead self.now.below.room (E.pre self.now.below.expression) (E.post self.now.below.expression) (S.pre self.now.below.statement) (S.post self.now.below.statement) }
-        ensures { ReadsAs (turn_tree expression_tree expression_tree) (rules.binary_rest self.now.below.room at level operator (expression_tree left) tokens.old) result tokens.new }
+        requires { AreRead self.now.below.room (E.pre self.now.below.expression) (E.post self.now.below.expression)
+            (S.pre self.now.below.statement) (S.post self.now.below.statement) }
+        ensures { ReadsAs (turn_tree expression_tree expression_tree)
+            (rules.binary_rest self.now.below.room at level operator (expression_tree left) tokens.old)
+            result tokens.new }
     {
         tokens.skip_lines();
-        let right = self.below.inner_expression(right_operand(level), at, tokens)?;
+        let right = self
+            .below
+            .inner_expression(right_operand(level), at, tokens)?;
         Ok(Turn::More(binary(self.below.alloc, operator, left, right)?))
     }
 
@@ -114,8 +123,11 @@ impl<
         first: Expression,
         tokens: &mut Tokens<'_>,
     ) -> Result<Expression, ParseError>
-        requires { AreRead self.now.below.room (E.pre self.now.below.expression) (E.post self.now.below.expression) (S.pre self.now.below.statement) (S.post self.now.below.statement) }
-        ensures { ReadsAs expression_tree (repeat (rules.binary_turn self.now.below.room at level) (expression_tree first) tokens.old) result tokens.new }
+        requires { AreRead self.now.below.room (E.pre self.now.below.expression) (E.post self.now.below.expression)
+            (S.pre self.now.below.statement) (S.post self.now.below.statement) }
+        ensures { ReadsAs expression_tree
+            (repeat (rules.binary_turn self.now.below.room at level) (expression_tree first) tokens.old)
+            result tokens.new }
     {
         repeat(
             tokens,
@@ -125,7 +137,8 @@ impl<
     }
 
     fn disjunction(&self, at: Context, tokens: &mut Tokens<'_>) -> Result<Expression, ParseError>
-        requires { AreRead self.now.below.room (E.pre self.now.below.expression) (E.post self.now.below.expression) (S.pre self.now.below.statement) (S.post self.now.below.statement) }
+        requires { AreRead self.now.below.room (E.pre self.now.below.expression) (E.post self.now.below.expression)
+            (S.pre self.now.below.statement) (S.post self.now.below.statement) }
         ensures { ReadsAs expression_tree (rules.disjunction self.now.below.room at tokens.old) result tokens.new }
     {
         let first = self.conjunction(at, tokens)?;
@@ -133,7 +146,8 @@ impl<
     }
 
     fn conjunction(&self, at: Context, tokens: &mut Tokens<'_>) -> Result<Expression, ParseError>
-        requires { AreRead self.now.below.room (E.pre self.now.below.expression) (E.post self.now.below.expression) (S.pre self.now.below.statement) (S.post self.now.below.statement) }
+        requires { AreRead self.now.below.room (E.pre self.now.below.expression) (E.post self.now.below.expression)
+            (S.pre self.now.below.statement) (S.post self.now.below.statement) }
         ensures { ReadsAs expression_tree (rules.conjunction self.now.below.room at tokens.old) result tokens.new }
     {
         let first = self.equality(at, tokens)?;
@@ -141,7 +155,8 @@ impl<
     }
 
     fn equality(&self, at: Context, tokens: &mut Tokens<'_>) -> Result<Expression, ParseError>
-        requires { AreRead self.now.below.room (E.pre self.now.below.expression) (E.post self.now.below.expression) (S.pre self.now.below.statement) (S.post self.now.below.statement) }
+        requires { AreRead self.now.below.room (E.pre self.now.below.expression) (E.post self.now.below.expression)
+            (S.pre self.now.below.statement) (S.post self.now.below.statement) }
         ensures { ReadsAs expression_tree (rules.equality self.now.below.room at tokens.old) result tokens.new }
     {
         let first = self.comparison(at, tokens)?;
@@ -150,7 +165,8 @@ impl<
 
     /// One comparison at most: they make no chain.
     fn comparison(&self, at: Context, tokens: &mut Tokens<'_>) -> Result<Expression, ParseError>
-        requires { AreRead self.now.below.room (E.pre self.now.below.expression) (E.post self.now.below.expression) (S.pre self.now.below.statement) (S.post self.now.below.statement) }
+        requires { AreRead self.now.below.room (E.pre self.now.below.expression) (E.post self.now.below.expression)
+            (S.pre self.now.below.statement) (S.post self.now.below.statement) }
         ensures { ReadsAs expression_tree (rules.comparison self.now.below.room at tokens.old) result tokens.new }
     {
         let left = self.test(at, tokens)?;
@@ -163,8 +179,10 @@ impl<
         left: Expression,
         tokens: &mut Tokens<'_>,
     ) -> Result<Expression, ParseError>
-        requires { AreRead self.now.below.room (E.pre self.now.below.expression) (E.post self.now.below.expression) (S.pre self.now.below.statement) (S.post self.now.below.statement) }
-        ensures { ReadsAs expression_tree (rules.comparison_behind self.now.below.room at (expression_tree left) tokens.old) result tokens.new }
+        requires { AreRead self.now.below.room (E.pre self.now.below.expression) (E.post self.now.below.expression)
+            (S.pre self.now.below.statement) (S.post self.now.below.statement) }
+        ensures { ReadsAs expression_tree
+            (rules.comparison_behind self.now.below.room at (expression_tree left) tokens.old) result tokens.new }
     {
         match self.binary_turn(BinaryLevel::Comparison, at, left, tokens)? {
             Turn::More(whole) | Turn::Done(whole) => Ok(whole),
@@ -173,7 +191,8 @@ impl<
 
     /// One `is` or `!is` at most.
     fn test(&self, at: Context, tokens: &mut Tokens<'_>) -> Result<Expression, ParseError>
-        requires { AreRead self.now.below.room (E.pre self.now.below.expression) (E.post self.now.below.expression) (S.pre self.now.below.statement) (S.post self.now.below.statement) }
+        requires { AreRead self.now.below.room (E.pre self.now.below.expression) (E.post self.now.below.expression)
+            (S.pre self.now.below.statement) (S.post self.now.below.statement) }
         ensures { ReadsAs expression_tree (rules.test self.now.below.room at tokens.old) result tokens.new }
     {
         let value = self.elvis(at, tokens)?;
@@ -185,8 +204,10 @@ impl<
         value: Expression,
         tokens: &mut Tokens<'_>,
     ) -> Result<Expression, ParseError>
-        requires { AreRead self.now.below.room (E.pre self.now.below.expression) (E.post self.now.below.expression) (S.pre self.now.below.statement) (S.post self.now.below.statement) }
-        ensures { ReadsAs expression_tree (rules.type_check_behind self.now.below.room (expression_tree value) tokens.old) result tokens.new }
+        requires { AreRead self.now.below.room (E.pre self.now.below.expression) (E.post self.now.below.expression)
+            (S.pre self.now.below.statement) (S.post self.now.below.statement) }
+        ensures { ReadsAs expression_tree
+            (rules.type_check_behind self.now.below.room (expression_tree value) tokens.old) result tokens.new }
     {
         let allowed = self.below.has_room(&value);
         match take_type_check(allowed, tokens) {
@@ -201,8 +222,10 @@ impl<
         negated: bool,
         tokens: &mut Tokens<'_>,
     ) -> Result<Expression, ParseError>
-        requires { AreRead self.now.below.room (E.pre self.now.below.expression) (E.post self.now.below.expression) (S.pre self.now.below.statement) (S.post self.now.below.statement) }
-        ensures { ReadsAs expression_tree (rules.type_check_rest self.now.below.room (expression_tree value) negated tokens.old) result tokens.new }
+        requires { AreRead self.now.below.room (E.pre self.now.below.expression) (E.post self.now.below.expression)
+            (S.pre self.now.below.statement) (S.post self.now.below.statement) }
+        ensures { ReadsAs expression_tree
+            (rules.type_check_rest self.now.below.room (expression_tree value) negated tokens.old) result tokens.new }
     {
         tokens.skip_lines();
         let written = read_type(self.below.alloc, self.below.room + 1, tokens)?;
@@ -210,7 +233,8 @@ impl<
     }
 
     fn elvis(&self, at: Context, tokens: &mut Tokens<'_>) -> Result<Expression, ParseError>
-        requires { AreRead self.now.below.room (E.pre self.now.below.expression) (E.post self.now.below.expression) (S.pre self.now.below.statement) (S.post self.now.below.statement) }
+        requires { AreRead self.now.below.room (E.pre self.now.below.expression) (E.post self.now.below.expression)
+            (S.pre self.now.below.statement) (S.post self.now.below.statement) }
         ensures { ReadsAs expression_tree (rules.elvis self.now.below.room at tokens.old) result tokens.new }
     {
         let first = self.infixed(at, tokens)?;
@@ -218,7 +242,8 @@ impl<
     }
 
     fn infixed(&self, at: Context, tokens: &mut Tokens<'_>) -> Result<Expression, ParseError>
-        requires { AreRead self.now.below.room (E.pre self.now.below.expression) (E.post self.now.below.expression) (S.pre self.now.below.statement) (S.post self.now.below.statement) }
+        requires { AreRead self.now.below.room (E.pre self.now.below.expression) (E.post self.now.below.expression)
+            (S.pre self.now.below.statement) (S.post self.now.below.statement) }
         ensures { ReadsAs expression_tree (rules.infixed self.now.below.room at tokens.old) result tokens.new }
     {
         let first = self.additive(at, tokens)?;
@@ -226,7 +251,8 @@ impl<
     }
 
     fn additive(&self, at: Context, tokens: &mut Tokens<'_>) -> Result<Expression, ParseError>
-        requires { AreRead self.now.below.room (E.pre self.now.below.expression) (E.post self.now.below.expression) (S.pre self.now.below.statement) (S.post self.now.below.statement) }
+        requires { AreRead self.now.below.room (E.pre self.now.below.expression) (E.post self.now.below.expression)
+            (S.pre self.now.below.statement) (S.post self.now.below.statement) }
         ensures { ReadsAs expression_tree (rules.additive self.now.below.room at tokens.old) result tokens.new }
     {
         let first = self.multiplicative(at, tokens)?;
@@ -234,7 +260,8 @@ impl<
     }
 
     fn multiplicative(&self, at: Context, tokens: &mut Tokens<'_>) -> Result<Expression, ParseError>
-        requires { AreRead self.now.below.room (E.pre self.now.below.expression) (E.post self.now.below.expression) (S.pre self.now.below.statement) (S.post self.now.below.statement) }
+        requires { AreRead self.now.below.room (E.pre self.now.below.expression) (E.post self.now.below.expression)
+            (S.pre self.now.below.statement) (S.post self.now.below.statement) }
         ensures { ReadsAs expression_tree (rules.multiplicative self.now.below.room at tokens.old) result tokens.new }
     {
         let first = self.cast(at, tokens)?;
@@ -242,7 +269,8 @@ impl<
     }
 
     fn cast(&self, at: Context, tokens: &mut Tokens<'_>) -> Result<Expression, ParseError>
-        requires { AreRead self.now.below.room (E.pre self.now.below.expression) (E.post self.now.below.expression) (S.pre self.now.below.statement) (S.post self.now.below.statement) }
+        requires { AreRead self.now.below.room (E.pre self.now.below.expression) (E.post self.now.below.expression)
+            (S.pre self.now.below.statement) (S.post self.now.below.statement) }
         ensures { ReadsAs expression_tree (rules.cast self.now.below.room at tokens.old) result tokens.new }
     {
         let first = self.prefix(at, tokens)?;
@@ -259,8 +287,10 @@ impl<
         value: Expression,
         tokens: &mut Tokens<'_>,
     ) -> Result<Turn<Expression, Expression>, ParseError>
-        requires { AreRead self.now.below.room (E.pre self.now.below.expression) (E.post self.now.below.expression) (S.pre self.now.below.statement) (S.post self.now.below.statement) }
-        ensures { ReadsAs (turn_tree expression_tree expression_tree) (rules.cast_turn self.now.below.room (expression_tree value) tokens.old) result tokens.new }
+        requires { AreRead self.now.below.room (E.pre self.now.below.expression) (E.post self.now.below.expression)
+            (S.pre self.now.below.statement) (S.post self.now.below.statement) }
+        ensures { ReadsAs (turn_tree expression_tree expression_tree)
+            (rules.cast_turn self.now.below.room (expression_tree value) tokens.old) result tokens.new }
     {
         let allowed = self.below.has_room(&value);
         match take_cast(allowed, tokens) {
@@ -275,8 +305,10 @@ impl<
         safe: bool,
         tokens: &mut Tokens<'_>,
     ) -> Result<Turn<Expression, Expression>, ParseError>
-        requires { AreRead self.now.below.room (E.pre self.now.below.expression) (E.post self.now.below.expression) (S.pre self.now.below.statement) (S.post self.now.below.statement) }
-        ensures { ReadsAs (turn_tree expression_tree expression_tree) (rules.cast_rest self.now.below.room (expression_tree value) safe tokens.old) result tokens.new }
+        requires { AreRead self.now.below.room (E.pre self.now.below.expression) (E.post self.now.below.expression)
+            (S.pre self.now.below.statement) (S.post self.now.below.statement) }
+        ensures { ReadsAs (turn_tree expression_tree expression_tree)
+            (rules.cast_rest self.now.below.room (expression_tree value) safe tokens.old) result tokens.new }
     {
         tokens.skip_lines();
         let written = read_type(self.below.alloc, self.below.room + 1, tokens)?;
@@ -285,7 +317,8 @@ impl<
 
     /// `('-' | '!') operand`, or what has no prefix.
     fn prefix(&self, at: Context, tokens: &mut Tokens<'_>) -> Result<Expression, ParseError>
-        requires { AreRead self.now.below.room (E.pre self.now.below.expression) (E.post self.now.below.expression) (S.pre self.now.below.statement) (S.post self.now.below.statement) }
+        requires { AreRead self.now.below.room (E.pre self.now.below.expression) (E.post self.now.below.expression)
+            (S.pre self.now.below.statement) (S.post self.now.below.statement) }
         ensures { ReadsAs expression_tree (rules.prefix self.now.below.room at tokens.old) result tokens.new }
     {
         match take_prefix_operator(self.below.is_deep(), tokens) {
@@ -301,8 +334,10 @@ impl<
         at: Context,
         tokens: &mut Tokens<'_>,
     ) -> Result<Expression, ParseError>
-        requires { AreRead self.now.below.room (E.pre self.now.below.expression) (E.post self.now.below.expression) (S.pre self.now.below.statement) (S.post self.now.below.statement) }
-        ensures { ReadsAs expression_tree (rules.prefix_rest self.now.below.room at start.now operator tokens.old) result tokens.new }
+        requires { AreRead self.now.below.room (E.pre self.now.below.expression) (E.post self.now.below.expression)
+            (S.pre self.now.below.statement) (S.post self.now.below.statement) }
+        ensures { ReadsAs expression_tree (rules.prefix_rest self.now.below.room at start.now operator tokens.old)
+            result tokens.new }
     {
         let operand = self.below.inner_expression(Precedence::Prefix, at, tokens)?;
         Ok(prefix(self.below.alloc, start.pos, operator, operand)?)

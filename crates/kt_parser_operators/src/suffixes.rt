@@ -82,8 +82,10 @@ impl<
         value: Expression,
         tokens: &mut Tokens<'_>,
     ) -> Result<Turn<Expression, Expression>, ParseError>
-        requires { AreRead self.now.below.room (E.pre self.now.below.expression) (E.post self.now.below.expression) (S.pre self.now.below.statement) (S.post self.now.below.statement) }
-        ensures { ReadsAs (turn_tree expression_tree expression_tree) (rules.suffix_turn self.now.below.room at (expression_tree value) tokens.old) result tokens.new }
+        requires { AreRead self.now.below.room (E.pre self.now.below.expression) (E.post self.now.below.expression)
+            (S.pre self.now.below.statement) (S.post self.now.below.statement) }
+        ensures { ReadsAs (turn_tree expression_tree expression_tree)
+            (rules.suffix_turn self.now.below.room at (expression_tree value) tokens.old) result tokens.new }
     {
         let types = attempt_if(
             ends_in_name(&value),
@@ -104,8 +106,11 @@ impl<
         types: Items<TypeReference>,
         tokens: &mut Tokens<'_>,
     ) -> Result<Turn<Expression, Expression>, ParseError>
-        requires { AreRead self.now.below.room (E.pre self.now.below.expression) (E.post self.now.below.expression) (S.pre self.now.below.statement) (S.post self.now.below.statement) }
-        ensures { ReadsAs (turn_tree expression_tree expression_tree) (rules.typed_call_rest self.now.below.room at (expression_tree value) (map type_tree types) tokens.old) result tokens.new }
+        requires { AreRead self.now.below.room (E.pre self.now.below.expression) (E.post self.now.below.expression)
+            (S.pre self.now.below.statement) (S.post self.now.below.statement) }
+        ensures { ReadsAs (turn_tree expression_tree expression_tree)
+            (rules.typed_call_rest self.now.below.room at (expression_tree value) (map type_tree types) tokens.old)
+            result tokens.new }
     {
         let arguments = self.call_arguments(at, tokens)?;
         Ok(Turn::More(call(self.below.alloc, value, types, arguments)?))
@@ -117,7 +122,8 @@ impl<
         at: Context,
         tokens: &mut Tokens<'_>,
     ) -> Result<Expression, ParseError>
-        requires { AreRead self.now.below.room (E.pre self.now.below.expression) (E.post self.now.below.expression) (S.pre self.now.below.statement) (S.post self.now.below.statement) }
+        requires { AreRead self.now.below.room (E.pre self.now.below.expression) (E.post self.now.below.expression)
+            (S.pre self.now.below.statement) (S.post self.now.below.statement) }
         ensures { ReadsAs expression_tree (rules.postfix self.now.below.room at tokens.old) result tokens.new }
     {
         let first = Primaries { below: self.below }.primary(at, tokens)?;
@@ -133,8 +139,10 @@ impl<
         &self,
         tokens: &mut Tokens<'_>,
     ) -> Result<Items<TypeReference>, ParseError>
-        requires { AreRead self.now.below.room (E.pre self.now.below.expression) (E.post self.now.below.expression) (S.pre self.now.below.statement) (S.post self.now.below.statement) }
-        ensures { ReadsAs (map type_tree) (rules.type_arguments_of_call self.now.below.room tokens.old) result tokens.new }
+        requires { AreRead self.now.below.room (E.pre self.now.below.expression) (E.post self.now.below.expression)
+            (S.pre self.now.below.statement) (S.post self.now.below.statement) }
+        ensures { ReadsAs (map type_tree) (rules.type_arguments_of_call self.now.below.room tokens.old)
+            result tokens.new }
     {
         let types = type_arguments(self.below.alloc, self.below.room + 1, tokens)?;
         if class_ahead(tokens, TokenClass::OpensArguments) {
@@ -146,8 +154,10 @@ impl<
 
     /// Whether there is room for a call without arguments: a call and the name that is called are one node.
     fn has_call(&self, called: &Expression) -> bool
-        requires { AreRead self.now.below.room (E.pre self.now.below.expression) (E.post self.now.below.expression) (S.pre self.now.below.statement) (S.post self.now.below.statement) }
-        ensures { result ≡ parser.has_call (suc self.now.below.room) (parsers self.now.below.room) outside (expression_tree called.now) }
+        requires { AreRead self.now.below.room (E.pre self.now.below.expression) (E.post self.now.below.expression)
+            (S.pre self.now.below.statement) (S.post self.now.below.statement) }
+        ensures { result ≡ parser.has_call (suc self.now.below.room) (parsers self.now.below.room) outside
+            (expression_tree called.now) }
     {
         let held = match &called.kind {
             ExpressionKind::Name(_) => 0,
@@ -164,8 +174,10 @@ impl<
         value: Expression,
         tokens: &mut Tokens<'_>,
     ) -> Result<Turn<Expression, Expression>, ParseError>
-        requires { AreRead self.now.below.room (E.pre self.now.below.expression) (E.post self.now.below.expression) (S.pre self.now.below.statement) (S.post self.now.below.statement) }
-        ensures { ReadsAs (turn_tree expression_tree expression_tree) (rules.plain_suffix_turn self.now.below.room at (expression_tree value) tokens.old) result tokens.new }
+        requires { AreRead self.now.below.room (E.pre self.now.below.expression) (E.post self.now.below.expression)
+            (S.pre self.now.below.statement) (S.post self.now.below.statement) }
+        ensures { ReadsAs (turn_tree expression_tree expression_tree)
+            (rules.plain_suffix_turn self.now.below.room at (expression_tree value) tokens.old) result tokens.new }
     {
         let arguments = attempt_if(
             self.has_call(&value),
@@ -188,8 +200,10 @@ impl<
         value: Expression,
         tokens: &mut Tokens<'_>,
     ) -> Result<Turn<Expression, Expression>, ParseError>
-        requires { AreRead self.now.below.room (E.pre self.now.below.expression) (E.post self.now.below.expression) (S.pre self.now.below.statement) (S.post self.now.below.statement) }
-        ensures { ReadsAs (turn_tree expression_tree expression_tree) (rules.other_suffix_turn self.now.below.room at (expression_tree value) tokens.old) result tokens.new }
+        requires { AreRead self.now.below.room (E.pre self.now.below.expression) (E.post self.now.below.expression)
+            (S.pre self.now.below.statement) (S.post self.now.below.statement) }
+        ensures { ReadsAs (turn_tree expression_tree expression_tree)
+            (rules.other_suffix_turn self.now.below.room at (expression_tree value) tokens.old) result tokens.new }
     {
         let suffix = attempt_if(
             self.below.has_room(&value),
@@ -204,7 +218,8 @@ impl<
 
     /// `'!!'`, an index, or a member.
     fn suffix(&self, at: Context, tokens: &mut Tokens<'_>) -> Result<Suffix, ParseError>
-        requires { AreRead self.now.below.room (E.pre self.now.below.expression) (E.post self.now.below.expression) (S.pre self.now.below.statement) (S.post self.now.below.statement) }
+        requires { AreRead self.now.below.room (E.pre self.now.below.expression) (E.post self.now.below.expression)
+            (S.pre self.now.below.statement) (S.post self.now.below.statement) }
         ensures { ReadsAs suffix_tree (rules.suffix self.now.below.room at tokens.old) result tokens.new }
     {
         match tokens.take_sign(Sign::NotNull) {
@@ -218,10 +233,13 @@ impl<
 
     /// Behind `[`.
     fn index_rest(&self, at: Context, tokens: &mut Tokens<'_>) -> Result<Suffix, ParseError>
-        requires { AreRead self.now.below.room (E.pre self.now.below.expression) (E.post self.now.below.expression) (S.pre self.now.below.statement) (S.post self.now.below.statement) }
+        requires { AreRead self.now.below.room (E.pre self.now.below.expression) (E.post self.now.below.expression)
+            (S.pre self.now.below.statement) (S.post self.now.below.statement) }
         ensures { ReadsAs suffix_tree (rules.index_rest self.now.below.room at tokens.old) result tokens.new }
     {
-        let element = self.below.inner_expression(Precedence::Disjunction, at, tokens)?;
+        let element = self
+            .below
+            .inner_expression(Precedence::Disjunction, at, tokens)?;
         expect(tokens, Sign::CloseBracket)?;
         Ok(Suffix::Index(element))
     }
@@ -243,8 +261,10 @@ impl<
         at: Context,
         tokens: &mut Tokens<'_>,
     ) -> Result<Items<Expression>, ParseError>
-        requires { AreRead self.now.below.room (E.pre self.now.below.expression) (E.post self.now.below.expression) (S.pre self.now.below.statement) (S.post self.now.below.statement) }
-        ensures { ReadsAs (map expression_tree) (rules.call_arguments self.now.below.room at tokens.old) result tokens.new }
+        requires { AreRead self.now.below.room (E.pre self.now.below.expression) (E.post self.now.below.expression)
+            (S.pre self.now.below.statement) (S.post self.now.below.statement) }
+        ensures { ReadsAs (map expression_tree) (rules.call_arguments self.now.below.room at tokens.old)
+            result tokens.new }
     {
         match tokens.take_sign(Sign::OpenParenthesis) {
             Some(_) => self.arguments_rest(at, tokens),
@@ -258,8 +278,10 @@ impl<
         at: Context,
         tokens: &mut Tokens<'_>,
     ) -> Result<Items<Expression>, ParseError>
-        requires { AreRead self.now.below.room (E.pre self.now.below.expression) (E.post self.now.below.expression) (S.pre self.now.below.statement) (S.post self.now.below.statement) }
-        ensures { ReadsAs (map expression_tree) (rules.lambda_argument self.now.below.room at tokens.old) result tokens.new }
+        requires { AreRead self.now.below.room (E.pre self.now.below.expression) (E.post self.now.below.expression)
+            (S.pre self.now.below.statement) (S.post self.now.below.statement) }
+        ensures { ReadsAs (map expression_tree) (rules.lambda_argument self.now.below.room at tokens.old)
+            result tokens.new }
     {
         let lambda = self.below.inner_lambda(at, tokens)?;
         let mut arguments = Items::new(self.below.alloc);
@@ -273,14 +295,18 @@ impl<
         at: Context,
         tokens: &mut Tokens<'_>,
     ) -> Result<Items<Expression>, ParseError>
-        requires { AreRead self.now.below.room (E.pre self.now.below.expression) (E.post self.now.below.expression) (S.pre self.now.below.statement) (S.post self.now.below.statement) }
-        ensures { ReadsAs (map expression_tree) (rules.arguments_in_parentheses self.now.below.room at tokens.old) result tokens.new }
+        requires { AreRead self.now.below.room (E.pre self.now.below.expression) (E.post self.now.below.expression)
+            (S.pre self.now.below.statement) (S.post self.now.below.statement) }
+        ensures { ReadsAs (map expression_tree) (rules.arguments_in_parentheses self.now.below.room at tokens.old)
+            result tokens.new }
     {
         maybe_comma_list(
             self.below.alloc,
             tokens,
             Sign::CloseParenthesis,
-            &|tokens: &mut Tokens<'_>| self.below.inner_expression(Precedence::Disjunction, at, tokens),
+            &|tokens: &mut Tokens<'_>| self
+                .below
+                .inner_expression(Precedence::Disjunction, at, tokens),
         )
     }
 
@@ -290,8 +316,10 @@ impl<
         at: Context,
         tokens: &mut Tokens<'_>,
     ) -> Result<Items<Expression>, ParseError>
-        requires { AreRead self.now.below.room (E.pre self.now.below.expression) (E.post self.now.below.expression) (S.pre self.now.below.statement) (S.post self.now.below.statement) }
-        ensures { ReadsAs (map expression_tree) (rules.arguments_rest self.now.below.room at tokens.old) result tokens.new }
+        requires { AreRead self.now.below.room (E.pre self.now.below.expression) (E.post self.now.below.expression)
+            (S.pre self.now.below.statement) (S.post self.now.below.statement) }
+        ensures { ReadsAs (map expression_tree) (rules.arguments_rest self.now.below.room at tokens.old)
+            result tokens.new }
     {
         let arguments = self.arguments_in_parentheses(at, tokens)?;
         self.with_lambda(at, arguments, tokens)
@@ -303,8 +331,10 @@ impl<
         mut arguments: Items<Expression>,
         tokens: &mut Tokens<'_>,
     ) -> Result<Items<Expression>, ParseError>
-        requires { AreRead self.now.below.room (E.pre self.now.below.expression) (E.post self.now.below.expression) (S.pre self.now.below.statement) (S.post self.now.below.statement) }
-        ensures { ReadsAs (map expression_tree) (rules.with_lambda self.now.below.room at (map expression_tree arguments) tokens.old) result tokens.new }
+        requires { AreRead self.now.below.room (E.pre self.now.below.expression) (E.post self.now.below.expression)
+            (S.pre self.now.below.statement) (S.post self.now.below.statement) }
+        ensures { ReadsAs (map expression_tree)
+            (rules.with_lambda self.now.below.room at (map expression_tree arguments) tokens.old) result tokens.new }
     {
         let lambda = attempt_if(
             self.below.is_deep(),

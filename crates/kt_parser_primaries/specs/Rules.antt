@@ -51,10 +51,12 @@ module _ (n : ℕ) (at : Context) where
       (on is_identifier (λ t. pure (e.name t.pos (name_of t))) literal_atom))
 
   abbrev pub braced : Parser Token ExpressionTree
-  braced = on (is_sign sign.OpenBrace) (lambda_rest n) (on (is_keyword word.When) (when_rest n at) (on (is_keyword word.Try) (try_rest n at) atom))
+  braced = on (is_sign sign.OpenBrace) (lambda_rest n)
+      (on (is_keyword word.When) (when_rest n at) (on (is_keyword word.Try) (try_rest n at) atom))
 
   abbrev pub return_rest : Token → Parser Token ExpressionTree
-  return_rest t = attempt_if (some_levels (parsers n).levels) ((parsers n).disjunction at) (λ a. pure (e.return t.pos (e.some_expression a))) (pure (e.return t.pos e.no_expression))
+  return_rest t = attempt_if (some_levels (parsers n).levels) ((parsers n).disjunction at)
+      (λ a. pure (e.return t.pos (e.some_expression a))) (pure (e.return t.pos e.no_expression))
 
   abbrev pub jump : Parser Token ExpressionTree
   jump = on_if (not at.in_lambda) (is_keyword word.Return) return_rest
@@ -65,7 +67,8 @@ module _ (n : ℕ) (at : Context) where
   throw_rest t = (parsers n).disjunction at >>= (λ a. pure (e.throw t.pos a))
 
   abbrev pub parenthesized_rest : Token → Parser Token ExpressionTree
-  parenthesized_rest t = (parsers n).disjunction at >>= (λ a. expect sign.CloseParenthesis >> pure (e.parenthesized t.pos a))
+  parenthesized_rest t = (parsers n).disjunction at
+      >>= (λ a. expect sign.CloseParenthesis >> pure (e.parenthesized t.pos a))
 
   abbrev pub primary : Parser Token ExpressionTree
   primary = p.primary (suc n) (parsers n) at

@@ -28,7 +28,8 @@ impl<
 > Primaries<E, S> {
     /// What begins a level of its own, or another primary expression.
     pub fn primary(&self, at: Context, tokens: &mut Tokens<'_>) -> Result<Expression, ParseError>
-        requires { AreRead self.now.below.room (E.pre self.now.below.expression) (E.post self.now.below.expression) (S.pre self.now.below.statement) (S.post self.now.below.statement) }
+        requires { AreRead self.now.below.room (E.pre self.now.below.expression) (E.post self.now.below.expression)
+            (S.pre self.now.below.statement) (S.post self.now.below.statement) }
         ensures { ReadsAs expression_tree (rules.primary self.now.below.room at tokens.old) result tokens.new }
     {
         let deep = self.below.is_deep();
@@ -51,10 +52,14 @@ impl<
         at: Context,
         tokens: &mut Tokens<'_>,
     ) -> Result<Expression, ParseError>
-        requires { AreRead self.now.below.room (E.pre self.now.below.expression) (E.post self.now.below.expression) (S.pre self.now.below.statement) (S.post self.now.below.statement) }
-        ensures { ReadsAs expression_tree (rules.parenthesized_rest self.now.below.room at start.now tokens.old) result tokens.new }
+        requires { AreRead self.now.below.room (E.pre self.now.below.expression) (E.post self.now.below.expression)
+            (S.pre self.now.below.statement) (S.post self.now.below.statement) }
+        ensures { ReadsAs expression_tree (rules.parenthesized_rest self.now.below.room at start.now tokens.old)
+            result tokens.new }
     {
-        let inner = self.below.inner_expression(Precedence::Disjunction, at, tokens)?;
+        let inner = self
+            .below
+            .inner_expression(Precedence::Disjunction, at, tokens)?;
         expect(tokens, Sign::CloseParenthesis)?;
         Ok(parenthesized(self.below.alloc, start.pos, inner)?)
     }
@@ -66,16 +71,21 @@ impl<
         at: Context,
         tokens: &mut Tokens<'_>,
     ) -> Result<Expression, ParseError>
-        requires { AreRead self.now.below.room (E.pre self.now.below.expression) (E.post self.now.below.expression) (S.pre self.now.below.statement) (S.post self.now.below.statement) }
-        ensures { ReadsAs expression_tree (rules.throw_rest self.now.below.room at start.now tokens.old) result tokens.new }
+        requires { AreRead self.now.below.room (E.pre self.now.below.expression) (E.post self.now.below.expression)
+            (S.pre self.now.below.statement) (S.post self.now.below.statement) }
+        ensures { ReadsAs expression_tree (rules.throw_rest self.now.below.room at start.now tokens.old)
+            result tokens.new }
     {
-        let exception = self.below.inner_expression(Precedence::Disjunction, at, tokens)?;
+        let exception = self
+            .below
+            .inner_expression(Precedence::Disjunction, at, tokens)?;
         Ok(throw(self.below.alloc, start.pos, exception)?)
     }
 
     /// `return` outside of lambdas, `break` and `continue` in loops, or another primary expression.
     fn jump(&self, at: Context, tokens: &mut Tokens<'_>) -> Result<Expression, ParseError>
-        requires { AreRead self.now.below.room (E.pre self.now.below.expression) (E.post self.now.below.expression) (S.pre self.now.below.statement) (S.post self.now.below.statement) }
+        requires { AreRead self.now.below.room (E.pre self.now.below.expression) (E.post self.now.below.expression)
+            (S.pre self.now.below.statement) (S.post self.now.below.statement) }
         ensures { ReadsAs expression_tree (rules.jump self.now.below.room at tokens.old) result tokens.new }
     {
         match keyword_if(!at.in_lambda, tokens, Keyword::Return) {
@@ -97,20 +107,25 @@ impl<
         at: Context,
         tokens: &mut Tokens<'_>,
     ) -> Result<Expression, ParseError>
-        requires { AreRead self.now.below.room (E.pre self.now.below.expression) (E.post self.now.below.expression) (S.pre self.now.below.statement) (S.post self.now.below.statement) }
-        ensures { ReadsAs expression_tree (rules.return_rest self.now.below.room at start.now tokens.old) result tokens.new }
+        requires { AreRead self.now.below.room (E.pre self.now.below.expression) (E.post self.now.below.expression)
+            (S.pre self.now.below.statement) (S.post self.now.below.statement) }
+        ensures { ReadsAs expression_tree (rules.return_rest self.now.below.room at start.now tokens.old)
+            result tokens.new }
     {
         let value = attempt_if(
             self.below.is_deep(),
             tokens,
-            &|tokens: &mut Tokens<'_>| self.below.inner_expression(Precedence::Disjunction, at, tokens),
+            &|tokens: &mut Tokens<'_>| self
+                .below
+                .inner_expression(Precedence::Disjunction, at, tokens),
         )?;
         Ok(return_with(self.below.alloc, start.pos, value)?)
     }
 
     /// A lambda literal, `when`, `try`, or another primary expression.
     fn braced(&self, at: Context, tokens: &mut Tokens<'_>) -> Result<Expression, ParseError>
-        requires { AreRead self.now.below.room (E.pre self.now.below.expression) (E.post self.now.below.expression) (S.pre self.now.below.statement) (S.post self.now.below.statement) }
+        requires { AreRead self.now.below.room (E.pre self.now.below.expression) (E.post self.now.below.expression)
+            (S.pre self.now.below.statement) (S.post self.now.below.statement) }
         ensures { ReadsAs expression_tree (rules.braced self.now.below.room at tokens.old) result tokens.new }
     {
         match tokens.take_sign(Sign::OpenBrace) {
@@ -127,7 +142,8 @@ impl<
 
     /// A string, `this`, a name, or a literal.
     fn atom(&self, at: Context, tokens: &mut Tokens<'_>) -> Result<Expression, ParseError>
-        requires { AreRead self.now.below.room (E.pre self.now.below.expression) (E.post self.now.below.expression) (S.pre self.now.below.statement) (S.post self.now.below.statement) }
+        requires { AreRead self.now.below.room (E.pre self.now.below.expression) (E.post self.now.below.expression)
+            (S.pre self.now.below.statement) (S.post self.now.below.statement) }
         ensures { ReadsAs expression_tree (rules.atom self.now.below.room at tokens.old) result tokens.new }
     {
         match tokens.take_class(TokenClass::OpenQuote) {

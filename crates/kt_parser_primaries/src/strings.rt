@@ -30,8 +30,10 @@ impl<
         at: Context,
         tokens: &mut Tokens<'_>,
     ) -> Result<Expression, ParseError>
-        requires { AreRead self.now.below.room (E.pre self.now.below.expression) (E.post self.now.below.expression) (S.pre self.now.below.statement) (S.post self.now.below.statement) }
-        ensures { ReadsAs expression_tree (rules.string_rest self.now.below.room at start tokens.old) result tokens.new }
+        requires { AreRead self.now.below.room (E.pre self.now.below.expression) (E.post self.now.below.expression)
+            (S.pre self.now.below.statement) (S.post self.now.below.statement) }
+        ensures { ReadsAs expression_tree (rules.string_rest self.now.below.room at start tokens.old)
+            result tokens.new }
     {
         repeat(
             tokens,
@@ -48,8 +50,10 @@ impl<
         parts: Parts,
         tokens: &mut Tokens<'_>,
     ) -> Result<Turn<Parts, Expression>, ParseError>
-        requires { AreRead self.now.below.room (E.pre self.now.below.expression) (E.post self.now.below.expression) (S.pre self.now.below.statement) (S.post self.now.below.statement) }
-        ensures { ReadsAs (turn_tree (map part_tree) expression_tree) (rules.string_turn self.now.below.room at start (map part_tree parts) tokens.old) result tokens.new }
+        requires { AreRead self.now.below.room (E.pre self.now.below.expression) (E.post self.now.below.expression)
+            (S.pre self.now.below.statement) (S.post self.now.below.statement) }
+        ensures { ReadsAs (turn_tree (map part_tree) expression_tree)
+            (rules.string_turn self.now.below.room at start (map part_tree parts) tokens.old) result tokens.new }
     {
         match tokens.take_class(TokenClass::CloseQuote) {
             Some(_) => Ok(Turn::Done(template(start, parts.into_items()))),
@@ -63,8 +67,10 @@ impl<
         mut parts: Parts,
         tokens: &mut Tokens<'_>,
     ) -> Result<Turn<Parts, Expression>, ParseError>
-        requires { AreRead self.now.below.room (E.pre self.now.below.expression) (E.post self.now.below.expression) (S.pre self.now.below.statement) (S.post self.now.below.statement) }
-        ensures { ReadsAs (turn_tree (map part_tree) expression_tree) (rules.further_part self.now.below.room at (map part_tree parts) tokens.old) result tokens.new }
+        requires { AreRead self.now.below.room (E.pre self.now.below.expression) (E.post self.now.below.expression)
+            (S.pre self.now.below.statement) (S.post self.now.below.statement) }
+        ensures { ReadsAs (turn_tree (map part_tree) expression_tree)
+            (rules.further_part self.now.below.room at (map part_tree parts) tokens.old) result tokens.new }
     {
         let part = self.next_part(at, &parts, tokens)?;
         parts.push(part)?;
@@ -78,8 +84,10 @@ impl<
         parts: &Parts,
         tokens: &mut Tokens<'_>,
     ) -> Result<StringPart, ParseError>
-        requires { AreRead self.now.below.room (E.pre self.now.below.expression) (E.post self.now.below.expression) (S.pre self.now.below.statement) (S.post self.now.below.statement) }
-        ensures { ReadsAs part_tree (rules.next_part self.now.below.room at (map part_tree parts.now) tokens.old) result tokens.new }
+        requires { AreRead self.now.below.room (E.pre self.now.below.expression) (E.post self.now.below.expression)
+            (S.pre self.now.below.statement) (S.post self.now.below.statement) }
+        ensures { ReadsAs part_tree (rules.next_part self.now.below.room at (map part_tree parts.now) tokens.old)
+            result tokens.new }
     {
         if parts.is_empty() {
             return self.string_part(at, tokens);
@@ -95,7 +103,8 @@ impl<
 
     /// Text, or where a level is left for what it holds, a name, `this`, or an expression.
     fn string_part(&self, at: Context, tokens: &mut Tokens<'_>) -> Result<StringPart, ParseError>
-        requires { AreRead self.now.below.room (E.pre self.now.below.expression) (E.post self.now.below.expression) (S.pre self.now.below.statement) (S.post self.now.below.statement) }
+        requires { AreRead self.now.below.room (E.pre self.now.below.expression) (E.post self.now.below.expression)
+            (S.pre self.now.below.statement) (S.post self.now.below.statement) }
         ensures { ReadsAs part_tree (rules.string_part self.now.below.room at tokens.old) result tokens.new }
     {
         let deep = self.below.is_deep();
@@ -113,11 +122,14 @@ impl<
 
     /// Behind `${`.
     fn hole_rest(&self, at: Context, tokens: &mut Tokens<'_>) -> Result<StringPart, ParseError>
-        requires { AreRead self.now.below.room (E.pre self.now.below.expression) (E.post self.now.below.expression) (S.pre self.now.below.statement) (S.post self.now.below.statement) }
+        requires { AreRead self.now.below.room (E.pre self.now.below.expression) (E.post self.now.below.expression)
+            (S.pre self.now.below.statement) (S.post self.now.below.statement) }
         ensures { ReadsAs part_tree (rules.hole_rest self.now.below.room at tokens.old) result tokens.new }
     {
         tokens.skip_lines();
-        let inner = self.below.inner_expression(Precedence::Disjunction, at, tokens)?;
+        let inner = self
+            .below
+            .inner_expression(Precedence::Disjunction, at, tokens)?;
         tokens.skip_lines();
         expect(tokens, Sign::CloseBrace)?;
         Ok(hole(self.below.alloc, inner)?)

@@ -67,7 +67,8 @@ impl<
         at: Context,
         tokens: &mut Tokens<'_>,
     ) -> Result<Statement, ParseError>
-        requires { AreRead self.now.below.room (E.pre self.now.below.expression) (E.post self.now.below.expression) (S.pre self.now.below.statement) (S.post self.now.below.statement) }
+        requires { AreRead self.now.below.room (E.pre self.now.below.expression) (E.post self.now.below.expression)
+            (S.pre self.now.below.statement) (S.post self.now.below.statement) }
         ensures { ReadsAs statement_tree (rules.statement self.now.below.room at tokens.old) result tokens.new }
     {
         match take_variable(true, tokens) {
@@ -78,7 +79,8 @@ impl<
 
     /// A statement that declares no variable.
     fn loop_or_simple(&self, at: Context, tokens: &mut Tokens<'_>) -> Result<Statement, ParseError>
-        requires { AreRead self.now.below.room (E.pre self.now.below.expression) (E.post self.now.below.expression) (S.pre self.now.below.statement) (S.post self.now.below.statement) }
+        requires { AreRead self.now.below.room (E.pre self.now.below.expression) (E.post self.now.below.expression)
+            (S.pre self.now.below.statement) (S.post self.now.below.statement) }
         ensures { ReadsAs statement_tree (rules.loop_or_simple self.now.below.room at tokens.old) result tokens.new }
     {
         let deep = self.below.is_deep();
@@ -95,9 +97,15 @@ impl<
     }
 
     /// No statement begins with `{`.
-    fn simple_without_brace(&self, at: Context, tokens: &mut Tokens<'_>) -> Result<Statement, ParseError>
-        requires { AreRead self.now.below.room (E.pre self.now.below.expression) (E.post self.now.below.expression) (S.pre self.now.below.statement) (S.post self.now.below.statement) }
-        ensures { ReadsAs statement_tree (rules.simple_without_brace self.now.below.room at tokens.old) result tokens.new }
+    fn simple_without_brace(
+        &self,
+        at: Context,
+        tokens: &mut Tokens<'_>,
+    ) -> Result<Statement, ParseError>
+        requires { AreRead self.now.below.room (E.pre self.now.below.expression) (E.post self.now.below.expression)
+            (S.pre self.now.below.statement) (S.post self.now.below.statement) }
+        ensures { ReadsAs statement_tree (rules.simple_without_brace self.now.below.room at tokens.old)
+            result tokens.new }
     {
         if begins_with_brace(tokens) {
             return Err(tokens.refuse());
@@ -107,7 +115,8 @@ impl<
 
     /// An expression, and perhaps an assignment or a step behind it.
     fn simple(&self, at: Context, tokens: &mut Tokens<'_>) -> Result<Statement, ParseError>
-        requires { AreRead self.now.below.room (E.pre self.now.below.expression) (E.post self.now.below.expression) (S.pre self.now.below.statement) (S.post self.now.below.statement) }
+        requires { AreRead self.now.below.room (E.pre self.now.below.expression) (E.post self.now.below.expression)
+            (S.pre self.now.below.statement) (S.post self.now.below.statement) }
         ensures { ReadsAs statement_tree (rules.simple self.now.below.room at tokens.old) result tokens.new }
     {
         let target = Operators { below: self.below }.whole_expression(
@@ -125,8 +134,10 @@ impl<
         target: Expression,
         tokens: &mut Tokens<'_>,
     ) -> Result<Statement, ParseError>
-        requires { AreRead self.now.below.room (E.pre self.now.below.expression) (E.post self.now.below.expression) (S.pre self.now.below.statement) (S.post self.now.below.statement) }
-        ensures { ReadsAs statement_tree (rules.assignment_rest self.now.below.room at (expression_tree target) tokens.old) result tokens.new }
+        requires { AreRead self.now.below.room (E.pre self.now.below.expression) (E.post self.now.below.expression)
+            (S.pre self.now.below.statement) (S.post self.now.below.statement) }
+        ensures { ReadsAs statement_tree
+            (rules.assignment_rest self.now.below.room at (expression_tree target) tokens.old) result tokens.new }
     {
         let assigns = self.assigns(&target);
         match take_assignment_operator(assigns, tokens) {
@@ -146,17 +157,22 @@ impl<
         operator: AssignmentOperator,
         tokens: &mut Tokens<'_>,
     ) -> Result<Statement, ParseError>
-        requires { AreRead self.now.below.room (E.pre self.now.below.expression) (E.post self.now.below.expression) (S.pre self.now.below.statement) (S.post self.now.below.statement) }
-        ensures { ReadsAs statement_tree (rules.assign_rest self.now.below.room at (expression_tree target) operator tokens.old) result tokens.new }
+        requires { AreRead self.now.below.room (E.pre self.now.below.expression) (E.post self.now.below.expression)
+            (S.pre self.now.below.statement) (S.post self.now.below.statement) }
+        ensures { ReadsAs statement_tree
+            (rules.assign_rest self.now.below.room at (expression_tree target) operator tokens.old) result tokens.new }
     {
         tokens.skip_lines();
-        let value = self.below.inner_expression(Precedence::Disjunction, at, tokens)?;
+        let value = self
+            .below
+            .inner_expression(Precedence::Disjunction, at, tokens)?;
         Ok(assign(self.below.alloc, target, operator, value)?)
     }
 
     /// Whether an assignment may follow: there is a target, and room for a level above it.
     fn assigns(&self, target: &Expression) -> bool
-        requires { AreRead self.now.below.room (E.pre self.now.below.expression) (E.post self.now.below.expression) (S.pre self.now.below.statement) (S.post self.now.below.statement) }
+        requires { AreRead self.now.below.room (E.pre self.now.below.expression) (E.post self.now.below.expression)
+            (S.pre self.now.below.statement) (S.post self.now.below.statement) }
         ensures { result ≡ rules.assigns self.now.below.room (expression_tree target.now) }
     {
         is_target(target) && self.below.has_room(target)
@@ -170,8 +186,10 @@ impl<
         at: Context,
         tokens: &mut Tokens<'_>,
     ) -> Result<Statement, ParseError>
-        requires { AreRead self.now.below.room (E.pre self.now.below.expression) (E.post self.now.below.expression) (S.pre self.now.below.statement) (S.post self.now.below.statement) }
-        ensures { ReadsAs statement_tree (rules.local_rest self.now.below.room at (start.now, variable) tokens.old) result tokens.new }
+        requires { AreRead self.now.below.room (E.pre self.now.below.expression) (E.post self.now.below.expression)
+            (S.pre self.now.below.statement) (S.post self.now.below.statement) }
+        ensures { ReadsAs statement_tree (rules.local_rest self.now.below.room at (start.now, variable) tokens.old)
+            result tokens.new }
     {
         let token = expect_identifier(tokens)?;
         let name = name_of(self.below.alloc, token)?;
@@ -193,8 +211,10 @@ impl<
         at: Context,
         tokens: &mut Tokens<'_>,
     ) -> Result<Option<Expression>, ParseError>
-        requires { AreRead self.now.below.room (E.pre self.now.below.expression) (E.post self.now.below.expression) (S.pre self.now.below.statement) (S.post self.now.below.statement) }
-        ensures { ReadsAs (option_map expression_tree) (rules.initializer self.now.below.room at tokens.old) result tokens.new }
+        requires { AreRead self.now.below.room (E.pre self.now.below.expression) (E.post self.now.below.expression)
+            (S.pre self.now.below.statement) (S.post self.now.below.statement) }
+        ensures { ReadsAs (option_map expression_tree) (rules.initializer self.now.below.room at tokens.old)
+            result tokens.new }
     {
         match sign_if(self.below.is_deep(), tokens, Sign::Assign) {
             Some(_) => self.initial_value(at, tokens),
@@ -207,11 +227,15 @@ impl<
         at: Context,
         tokens: &mut Tokens<'_>,
     ) -> Result<Option<Expression>, ParseError>
-        requires { AreRead self.now.below.room (E.pre self.now.below.expression) (E.post self.now.below.expression) (S.pre self.now.below.statement) (S.post self.now.below.statement) }
-        ensures { ReadsAs (option_map expression_tree) (rules.initial_value self.now.below.room at tokens.old) result tokens.new }
+        requires { AreRead self.now.below.room (E.pre self.now.below.expression) (E.post self.now.below.expression)
+            (S.pre self.now.below.statement) (S.post self.now.below.statement) }
+        ensures { ReadsAs (option_map expression_tree) (rules.initial_value self.now.below.room at tokens.old)
+            result tokens.new }
     {
         tokens.skip_lines();
-        let value = self.below.inner_expression(Precedence::Disjunction, at, tokens)?;
+        let value = self
+            .below
+            .inner_expression(Precedence::Disjunction, at, tokens)?;
         Ok(Some(value))
     }
 
@@ -222,11 +246,15 @@ impl<
         at: Context,
         tokens: &mut Tokens<'_>,
     ) -> Result<Statement, ParseError>
-        requires { AreRead self.now.below.room (E.pre self.now.below.expression) (E.post self.now.below.expression) (S.pre self.now.below.statement) (S.post self.now.below.statement) }
-        ensures { ReadsAs statement_tree (rules.while_rest self.now.below.room at start.now tokens.old) result tokens.new }
+        requires { AreRead self.now.below.room (E.pre self.now.below.expression) (E.post self.now.below.expression)
+            (S.pre self.now.below.statement) (S.post self.now.below.statement) }
+        ensures { ReadsAs statement_tree (rules.while_rest self.now.below.room at start.now tokens.old)
+            result tokens.new }
     {
         expect(tokens, Sign::OpenParenthesis)?;
-        let condition = self.below.inner_expression(Precedence::Disjunction, at, tokens)?;
+        let condition = self
+            .below
+            .inner_expression(Precedence::Disjunction, at, tokens)?;
         expect(tokens, Sign::CloseParenthesis)?;
         tokens.skip_lines();
         let body = self.below.inner_body(in_loop(at), tokens)?;
@@ -240,7 +268,8 @@ impl<
         at: Context,
         tokens: &mut Tokens<'_>,
     ) -> Result<Statement, ParseError>
-        requires { AreRead self.now.below.room (E.pre self.now.below.expression) (E.post self.now.below.expression) (S.pre self.now.below.statement) (S.post self.now.below.statement) }
+        requires { AreRead self.now.below.room (E.pre self.now.below.expression) (E.post self.now.below.expression)
+            (S.pre self.now.below.statement) (S.post self.now.below.statement) }
         ensures { ReadsAs statement_tree (rules.do_rest self.now.below.room at start.now tokens.old) result tokens.new }
     {
         tokens.skip_lines();
@@ -248,7 +277,9 @@ impl<
         tokens.skip_lines();
         expect_keyword(tokens, Keyword::While)?;
         expect(tokens, Sign::OpenParenthesis)?;
-        let condition = self.below.inner_expression(Precedence::Disjunction, at, tokens)?;
+        let condition = self
+            .below
+            .inner_expression(Precedence::Disjunction, at, tokens)?;
         expect(tokens, Sign::CloseParenthesis)?;
         Ok(do_while(self.below.alloc, start.pos, body, condition)?)
     }
@@ -260,8 +291,10 @@ impl<
         at: Context,
         tokens: &mut Tokens<'_>,
     ) -> Result<Statement, ParseError>
-        requires { AreRead self.now.below.room (E.pre self.now.below.expression) (E.post self.now.below.expression) (S.pre self.now.below.statement) (S.post self.now.below.statement) }
-        ensures { ReadsAs statement_tree (rules.for_rest self.now.below.room at start.now tokens.old) result tokens.new }
+        requires { AreRead self.now.below.room (E.pre self.now.below.expression) (E.post self.now.below.expression)
+            (S.pre self.now.below.statement) (S.post self.now.below.statement) }
+        ensures { ReadsAs statement_tree (rules.for_rest self.now.below.room at start.now tokens.old)
+            result tokens.new }
     {
         expect(tokens, Sign::OpenParenthesis)?;
         let variable = expect_identifier(tokens)?;
@@ -277,10 +310,14 @@ impl<
         at: Context,
         tokens: &mut Tokens<'_>,
     ) -> Result<Statement, ParseError>
-        requires { AreRead self.now.below.room (E.pre self.now.below.expression) (E.post self.now.below.expression) (S.pre self.now.below.statement) (S.post self.now.below.statement) }
-        ensures { ReadsAs statement_tree (rules.for_range self.now.below.room at start.now variable.now tokens.old) result tokens.new }
+        requires { AreRead self.now.below.room (E.pre self.now.below.expression) (E.post self.now.below.expression)
+            (S.pre self.now.below.statement) (S.post self.now.below.statement) }
+        ensures { ReadsAs statement_tree (rules.for_range self.now.below.room at start.now variable.now tokens.old)
+            result tokens.new }
     {
-        let first = self.below.inner_expression(Precedence::Additive, at, tokens)?;
+        let first = self
+            .below
+            .inner_expression(Precedence::Additive, at, tokens)?;
         let (_, operator) = range_operator(tokens)?;
         self.for_bound(start, variable, first, operator, at, tokens)
     }
@@ -295,10 +332,15 @@ impl<
         at: Context,
         tokens: &mut Tokens<'_>,
     ) -> Result<Statement, ParseError>
-        requires { AreRead self.now.below.room (E.pre self.now.below.expression) (E.post self.now.below.expression) (S.pre self.now.below.statement) (S.post self.now.below.statement) }
-        ensures { ReadsAs statement_tree (rules.for_bound self.now.below.room at start.now variable.now (expression_tree first) operator tokens.old) result tokens.new }
+        requires { AreRead self.now.below.room (E.pre self.now.below.expression) (E.post self.now.below.expression)
+            (S.pre self.now.below.statement) (S.post self.now.below.statement) }
+        ensures { ReadsAs statement_tree
+            (rules.for_bound self.now.below.room at start.now variable.now (expression_tree first) operator tokens.old)
+            result tokens.new }
     {
-        let bound = self.below.inner_expression(Precedence::Additive, at, tokens)?;
+        let bound = self
+            .below
+            .inner_expression(Precedence::Additive, at, tokens)?;
         self.for_end(start, variable, first, operator, bound, at, tokens)
     }
 
@@ -313,8 +355,11 @@ impl<
         at: Context,
         tokens: &mut Tokens<'_>,
     ) -> Result<Statement, ParseError>
-        requires { AreRead self.now.below.room (E.pre self.now.below.expression) (E.post self.now.below.expression) (S.pre self.now.below.statement) (S.post self.now.below.statement) }
-        ensures { ReadsAs statement_tree (rules.for_end self.now.below.room at start.now variable.now (expression_tree first) operator (expression_tree bound) tokens.old) result tokens.new }
+        requires { AreRead self.now.below.room (E.pre self.now.below.expression) (E.post self.now.below.expression)
+            (S.pre self.now.below.statement) (S.post self.now.below.statement) }
+        ensures { ReadsAs statement_tree
+            (rules.for_end self.now.below.room at start.now variable.now (expression_tree first) operator
+            (expression_tree bound) tokens.old) result tokens.new }
     {
         expect(tokens, Sign::CloseParenthesis)?;
         self.for_body(start, variable, first, operator, bound, at, tokens)
@@ -331,8 +376,11 @@ impl<
         at: Context,
         tokens: &mut Tokens<'_>,
     ) -> Result<Statement, ParseError>
-        requires { AreRead self.now.below.room (E.pre self.now.below.expression) (E.post self.now.below.expression) (S.pre self.now.below.statement) (S.post self.now.below.statement) }
-        ensures { ReadsAs statement_tree (rules.for_body self.now.below.room at start.now variable.now (expression_tree first) operator (expression_tree bound) tokens.old) result tokens.new }
+        requires { AreRead self.now.below.room (E.pre self.now.below.expression) (E.post self.now.below.expression)
+            (S.pre self.now.below.statement) (S.post self.now.below.statement) }
+        ensures { ReadsAs statement_tree
+            (rules.for_body self.now.below.room at start.now variable.now (expression_tree first) operator
+            (expression_tree bound) tokens.old) result tokens.new }
     {
         tokens.skip_lines();
         let body = self.below.inner_body(in_loop(at), tokens)?;
@@ -358,7 +406,9 @@ fn for_variable(
     bound: Expression,
     body: ControlStructureBody,
 ) -> Result<Statement, NoMemory>
-    ensures { IfOk result (λ s. statement_tree s ≡ tree.for start.now.pos (terminals.name_of variable.now) (expression_tree first) operator (expression_tree bound) (body_tree body)) }
+    ensures { IfOk result
+        (λ s. statement_tree s ≡ tree.for start.now.pos (terminals.name_of variable.now) (expression_tree first)
+        operator (expression_tree bound) (body_tree body)) }
 {
     let name = name_of(alloc, variable)?;
     for_loop(alloc, start.pos, name, first, operator, bound, body)

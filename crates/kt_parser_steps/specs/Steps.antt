@@ -35,8 +35,10 @@ Finds view outcome old (Some a) new = outcome ≡ Ok (view a, new)
 Finds view outcome old None new = (outcome ≡ Err new.far) × (new.rest ≡ old.rest)
 
 -- each call of a function value reads what the parser reads
-abbrev pub EachReads : {T A B : Type 0} → (A → B) → Parser T B → (MutBor (Cursor T) → Result A ParseError → MutBor (Cursor T) → Type 0) → Type 0
-EachReads {T} {A} tree p post = (old new : MutBor (Cursor T)) (r : Result A ParseError) → post old r new → ReadsAs tree (p old.now) r new.now
+abbrev pub EachReads : {T A B : Type 0} → (A → B) → Parser T B
+    → (MutBor (Cursor T) → Result A ParseError → MutBor (Cursor T) → Type 0) → Type 0
+EachReads {T} {A} tree p post = (old new : MutBor (Cursor T)) (r : Result A ParseError) → post old r new
+    → ReadsAs tree (p old.now) r new.now
 
 -- each call of a function value tells what a token stands for
 abbrev pub EachMeans : {A : Type 0} → Meaning A → (Bor Token → Option A → Type 0) → Type 0
@@ -48,8 +50,10 @@ turn_tree state outcome (turn.More s) = inl (state s)
 turn_tree state outcome (turn.Done b) = inr (outcome b)
 
 -- each call of a function value is a turn of the parser's loop
-abbrev pub EachTurns : {T S B X Y : Type 0} → (S → X) → (B → Y) → (X → Parser T (X ⊎ Y)) → (S → MutBor (Cursor T) → Result (Turn S B) ParseError → MutBor (Cursor T) → Type 0) → Type 0
-EachTurns {T} {S} {B} state outcome t post = (s : S) (old new : MutBor (Cursor T)) (r : Result (Turn S B) ParseError) → post s old r new → ReadsAs (turn_tree state outcome) (t (state s) old.now) r new.now
+abbrev pub EachTurns : {T S B X Y : Type 0} → (S → X) → (B → Y) → (X → Parser T (X ⊎ Y))
+    → (S → MutBor (Cursor T) → Result (Turn S B) ParseError → MutBor (Cursor T) → Type 0) → Type 0
+EachTurns {T} {S} {B} state outcome t post = (s : S) (old new : MutBor (Cursor T)) (r : Result (Turn S B) ParseError)
+    → post s old r new → ReadsAs (turn_tree state outcome) (t (state s) old.now) r new.now
 
 -- what a parser gives, seen as something else
 abbrev pub given : {T A B : Type 0} → (A → B) → Parser T A → Parser T B

@@ -18,7 +18,11 @@ use kt_tree::{Keyword, Sign, SoftKeyword, Token};
 pub fn sign_if<'a>(allowed: bool, tokens: &mut Tokens<'a>, sign: Sign) -> Option<&'a Token>
     ensures { TurnedIf allowed (is_sign sign) tokens.old (option_copied result) tokens.new }
 {
-    if allowed { tokens.take_sign(sign) } else { None }
+    if allowed {
+        tokens.take_sign(sign)
+    } else {
+        None
+    }
 }
 
 /// Takes the next token where this keyword is allowed, and is it.
@@ -51,7 +55,11 @@ pub fn soft_keyword_if<'a>(
 pub fn class_if<'a>(allowed: bool, tokens: &mut Tokens<'a>, class: TokenClass) -> Option<&'a Token>
     ensures { TurnedIf allowed (is_of class) tokens.old (option_copied result) tokens.new }
 {
-    if allowed { tokens.take_class(class) } else { None }
+    if allowed {
+        tokens.take_class(class)
+    } else {
+        None
+    }
 }
 
 /// Takes a part where it is allowed and can be read. Else the cursor goes back.
@@ -61,7 +69,8 @@ pub fn attempt_if<'a, A: Node + Drop, F: Fn(&mut Tokens<'a>) -> Result<A, ParseE
     part: &F,
 ) -> Result<Option<A>, NoMemory>
     requires { F.IsAlwaysCallable part.now }
-    ensures { (p : Parser Token A.Tree) → EachReads A.tree p (F.post part.now) → IfOk result (λ found. FindsIf allowed A.tree p tokens.old found tokens.new) }
+    ensures { (p : Parser Token A.Tree) → EachReads A.tree p (F.post part.now)
+        → IfOk result (λ found. FindsIf allowed A.tree p tokens.old found tokens.new) }
 {
     if !allowed {
         return Ok(None);

@@ -35,7 +35,9 @@ fn comma_turn<T: Node + Drop, F: Fn(&mut Tokens<'_>) -> Result<T, ParseError>>(
     item: &F,
 ) -> Result<Turn<Items<T>, Items<T>>, ParseError>
     requires { F.IsAlwaysCallable item.now }
-    ensures { (p : Parser Token T.Tree) → EachReads T.tree p (F.post item.now) → ReadsAs (turn_tree (map T.tree) (map T.tree)) (parsers.comma_turn (is_sign sign.Comma) (is_sign close) p (map T.tree items) tokens.old) result tokens.new }
+    ensures { (p : Parser Token T.Tree) → EachReads T.tree p (F.post item.now)
+        → ReadsAs (turn_tree (map T.tree) (map T.tree))
+        (parsers.comma_turn (is_sign sign.Comma) (is_sign close) p (map T.tree items) tokens.old) result tokens.new }
 {
     match tokens.take_sign(Sign::Comma) {
         Some(_) => {
@@ -58,7 +60,8 @@ pub fn comma_list<T: Node + Drop, F: Fn(&mut Tokens<'_>) -> Result<T, ParseError
     item: &F,
 ) -> Result<Items<T>, ParseError>
     requires { F.IsAlwaysCallable item.now }
-    ensures { (p : Parser Token T.Tree) → EachReads T.tree p (F.post item.now) → ReadsAs (map T.tree) (readers.commas (is_sign close) p tokens.old) result tokens.new }
+    ensures { (p : Parser Token T.Tree) → EachReads T.tree p (F.post item.now)
+        → ReadsAs (map T.tree) (readers.commas (is_sign close) p tokens.old) result tokens.new }
 {
     let mut items = Items::new(alloc);
     let first = item(tokens)?;
@@ -78,7 +81,8 @@ pub fn maybe_comma_list<T: Node + Drop, F: Fn(&mut Tokens<'_>) -> Result<T, Pars
     item: &F,
 ) -> Result<Items<T>, ParseError>
     requires { F.IsAlwaysCallable item.now }
-    ensures { (p : Parser Token T.Tree) → EachReads T.tree p (F.post item.now) → ReadsAs (map T.tree) (readers.maybe_commas (is_sign close) p tokens.old) result tokens.new }
+    ensures { (p : Parser Token T.Tree) → EachReads T.tree p (F.post item.now)
+        → ReadsAs (map T.tree) (readers.maybe_commas (is_sign close) p tokens.old) result tokens.new }
 {
     match tokens.take_sign(close) {
         Some(_) => Ok(Items::new(alloc)),
@@ -119,7 +123,10 @@ fn several_turn<T: Node + Drop, F: Fn(&mut Tokens<'_>) -> Result<T, ParseError>>
     item: &F,
 ) -> Result<Turn<Items<T>, Items<T>>, ParseError>
     requires { F.IsAlwaysCallable item.now }
-    ensures { (p : Parser Token T.Tree) → EachReads T.tree p (F.post item.now) → ReadsAs (turn_tree (map T.tree) (map T.tree)) (parsers.more_turn (lead_of lead) (is_sign sign.Comma) is_new_line p (map T.tree items) tokens.old) result tokens.new }
+    ensures { (p : Parser Token T.Tree) → EachReads T.tree p (F.post item.now)
+        → ReadsAs (turn_tree (map T.tree) (map T.tree))
+        (parsers.more_turn (lead_of lead) (is_sign sign.Comma) is_new_line p (map T.tree items) tokens.old)
+        result tokens.new }
 {
     match comma_behind(lead, tokens) {
         Some(_) => {
@@ -140,7 +147,8 @@ pub fn several<T: Node + Drop, F: Fn(&mut Tokens<'_>) -> Result<T, ParseError>>(
     item: &F,
 ) -> Result<Items<T>, ParseError>
     requires { F.IsAlwaysCallable item.now }
-    ensures { (p : Parser Token T.Tree) → EachReads T.tree p (F.post item.now) → ReadsAs (map T.tree) (readers.several_items (lead_of lead) p tokens.old) result tokens.new }
+    ensures { (p : Parser Token T.Tree) → EachReads T.tree p (F.post item.now)
+        → ReadsAs (map T.tree) (readers.several_items (lead_of lead) p tokens.old) result tokens.new }
 {
     let mut items = Items::new(alloc);
     let first = item(tokens)?;
@@ -180,7 +188,10 @@ fn separated_turn<T: Node + Drop, F: Fn(&mut Tokens<'_>) -> Result<T, ParseError
     item: &F,
 ) -> Result<Turn<Items<T>, (Items<T>, Pos)>, ParseError>
     requires { F.IsAlwaysCallable item.now }
-    ensures { (p : Parser Token T.Tree) → EachReads T.tree p (F.post item.now) → ReadsAs (turn_tree (map T.tree) (λ list. (map T.tree list.0, list.1))) (given (ended place_of) (parsers.item_turn is_separator (is_of close) p (map T.tree items)) tokens.old) result tokens.new }
+    ensures { (p : Parser Token T.Tree) → EachReads T.tree p (F.post item.now)
+        → ReadsAs (turn_tree (map T.tree) (λ list. (map T.tree list.0, list.1)))
+        (given (ended place_of) (parsers.item_turn is_separator (is_of close) p (map T.tree items)) tokens.old)
+        result tokens.new }
 {
     match tokens.take_class(close) {
         Some(token) => Ok(Turn::Done((items, token.pos))),
@@ -201,7 +212,9 @@ pub fn separated<T: Node + Drop, F: Fn(&mut Tokens<'_>) -> Result<T, ParseError>
     item: &F,
 ) -> Result<(Items<T>, Pos), ParseError>
     requires { F.IsAlwaysCallable item.now }
-    ensures { (p : Parser Token T.Tree) → EachReads T.tree p (F.post item.now) → ReadsAs (λ list. (map T.tree list.0, list.1)) (given place_of (readers.separated (is_of close) p) tokens.old) result tokens.new }
+    ensures { (p : Parser Token T.Tree) → EachReads T.tree p (F.post item.now)
+        → ReadsAs (λ list. (map T.tree list.0, list.1)) (given place_of (readers.separated (is_of close) p) tokens.old)
+        result tokens.new }
 {
     tokens.skip_separators();
     repeat(

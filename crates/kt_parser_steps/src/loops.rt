@@ -26,7 +26,8 @@ pub fn repeat<S: Node + Drop, B: Node + Drop, F>(
 where
     F: Fn(S, &mut Tokens<'_>) -> Result<Turn<S, B>, ParseError>,
     requires { F.IsAlwaysCallable turn.now }
-    ensures { (t : S.Tree → Parser Token (S.Tree ⊎ B.Tree)) → EachTurns S.tree B.tree t (F.post turn.now) → ReadsAs B.tree (parsers.repeat t (S.tree start) tokens.old) result tokens.new }
+    ensures { (t : S.Tree → Parser Token (S.Tree ⊎ B.Tree)) → EachTurns S.tree B.tree t (F.post turn.now)
+        → ReadsAs B.tree (parsers.repeat t (S.tree start) tokens.old) result tokens.new }
 {
     let mut state = start;
     for _turn in 0..tokens.turns() {

@@ -91,7 +91,8 @@ pub fn meant<'a, A: Drop, F: Fn(&Token) -> Option<A>>(
     of: &F,
 ) -> Option<(&'a Token, A)>
     requires { F.IsAlwaysCallable of.now }
-    ensures { (m : Meaning A) → EachMeans m (F.post of.now) → Finds (λ found. (found.0.now, found.1)) (readers.meant m tokens.old) tokens.old result tokens.new }
+    ensures { (m : Meaning A) → EachMeans m (F.post of.now)
+        → Finds (λ found. (found.0.now, found.1)) (readers.meant m tokens.old) tokens.old result tokens.new }
 {
     match tokens.rest() {
         [token, rest @ ..] => match of(token) {
@@ -113,7 +114,9 @@ pub fn meant<'a, A: Drop, F: Fn(&Token) -> Option<A>>(
 
 /// The next token and the part of a string that it is, where it is text: it is taken then.
 pub fn meant_text<'a>(tokens: &mut Tokens<'a>) -> Result<Option<(&'a Token, TextPart)>, NoMemory>
-    ensures { IfOk result (λ found. Finds (λ part. (part.0.now, part.1)) (readers.meant spec.text_of tokens.old) tokens.old found tokens.new) }
+    ensures { IfOk result
+        (λ found. Finds (λ part. (part.0.now, part.1)) (readers.meant spec.text_of tokens.old)
+        tokens.old found tokens.new) }
 {
     match tokens.rest() {
         [token, rest @ ..] => match text_part(token)? {

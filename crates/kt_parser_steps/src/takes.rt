@@ -23,7 +23,8 @@ pub fn meant_if<'a, A: Drop, F: Fn(&Token) -> Option<A>>(
     of: &F,
 ) -> Option<(&'a Token, A)>
     requires { F.IsAlwaysCallable of.now }
-    ensures { (m : Meaning A) → EachMeans m (F.post of.now) → FindsIf allowed found_token (readers.meant m) tokens.old result tokens.new }
+    ensures { (m : Meaning A) → EachMeans m (F.post of.now)
+        → FindsIf allowed found_token (readers.meant m) tokens.old result tokens.new }
 {
     if allowed { meant(tokens, of) } else { None }
 }

@@ -15,14 +15,17 @@ use Rattle.kt_parser_steps.specs.Steps.{ReadsAs}
 
 -- a function value that reads types of so many levels
 pub record ReadsBelow (room : ℕ) (pre : Global → ℕ → MutBor (Cursor Token) → Type 0)
-    (post : Global → ℕ → MutBor (Cursor Token) → Result TypeReference ParseError → MutBor (Cursor Token) → Type 0) : Type 0 where
+    (post : Global → ℕ → MutBor (Cursor Token) → Result TypeReference ParseError → MutBor (Cursor Token) → Type 0) :
+    Type 0 where
   pub callable : (alloc : Global) (old : MutBor (Cursor Token)) → pre alloc room old
-  pub reads : (alloc : Global) (old new : MutBor (Cursor Token)) (r : Result TypeReference ParseError) → post alloc room old r new
+  pub reads : (alloc : Global) (old new : MutBor (Cursor Token)) (r : Result TypeReference ParseError)
+      → post alloc room old r new
       → ReadsAs type_tree (type_parser room old.now) r new.now
 
 -- targs?
 abbrev pub behind_name : Bool → Parser Token TypeTree → List ℕ → Parser Token TypeTree
-behind_name deep part name = attempt_if deep (type_arguments part) (λ ts. pure (named name (types_of ts))) (pure (named name (types_of [])))
+behind_name deep part name =
+    attempt_if deep (type_arguments part) (λ ts. pure (named name (types_of ts))) (pure (named name (types_of [])))
 
 -- ID targs? '?'?
 abbrev pub named_or_nullable : Bool → Parser Token TypeTree → Parser Token TypeTree

@@ -45,7 +45,8 @@ impl<F: Fn(Global, u32, &mut Tokens<'_>) -> Result<TypeReference, ParseError>> T
         tokens: &mut Tokens<'_>,
     ) -> Result<Items<TypeReference>, ParseError>
         requires { ReadsBelow self.now.room (F.pre self.now.read) (F.post self.now.read) }
-        ensures { ReadsAs (map type_tree) (readers.commas (is_sign close) (type_parser self.now.room) tokens.old) result tokens.new }
+        ensures { ReadsAs (map type_tree) (readers.commas (is_sign close) (type_parser self.now.room) tokens.old)
+            result tokens.new }
     {
         comma_list(
             self.alloc,
@@ -61,7 +62,8 @@ impl<F: Fn(Global, u32, &mut Tokens<'_>) -> Result<TypeReference, ParseError>> T
         tokens: &mut Tokens<'_>,
     ) -> Result<Items<TypeReference>, ParseError>
         requires { ReadsBelow self.now.room (F.pre self.now.read) (F.post self.now.read) }
-        ensures { ReadsAs (map type_tree) (readers.maybe_commas (is_sign close) (type_parser self.now.room) tokens.old) result tokens.new }
+        ensures { ReadsAs (map type_tree) (readers.maybe_commas (is_sign close) (type_parser self.now.room) tokens.old)
+            result tokens.new }
     {
         maybe_comma_list(
             self.alloc,
@@ -74,7 +76,8 @@ impl<F: Fn(Global, u32, &mut Tokens<'_>) -> Result<TypeReference, ParseError>> T
     /// `'<' type (',' type)* '>'`
     fn arguments(&self, tokens: &mut Tokens<'_>) -> Result<Items<TypeReference>, ParseError>
         requires { ReadsBelow self.now.room (F.pre self.now.read) (F.post self.now.read) }
-        ensures { ReadsAs (map type_tree) (readers.type_arguments (type_parser self.now.room) tokens.old) result tokens.new }
+        ensures { ReadsAs (map type_tree) (readers.type_arguments (type_parser self.now.room) tokens.old)
+            result tokens.new }
     {
         expect(tokens, Sign::Less)?;
         self.several(Sign::Greater, tokens)
@@ -83,7 +86,8 @@ impl<F: Fn(Global, u32, &mut Tokens<'_>) -> Result<TypeReference, ParseError>> T
     /// The arguments behind a type's name, where what follows reads as arguments.
     fn behind_name(&self, name: Name, tokens: &mut Tokens<'_>) -> Result<TypeReference, ParseError>
         requires { ReadsBelow self.now.room (F.pre self.now.read) (F.post self.now.read) }
-        ensures { ReadsAs type_tree (behind_name (some_levels self.now.room) (type_parser self.now.room) name tokens.old) result tokens.new }
+        ensures { ReadsAs type_tree
+            (behind_name (some_levels self.now.room) (type_parser self.now.room) name tokens.old) result tokens.new }
     {
         if self.room == 0 {
             return Ok(named(name, Items::new(self.alloc)));
@@ -102,7 +106,8 @@ impl<F: Fn(Global, u32, &mut Tokens<'_>) -> Result<TypeReference, ParseError>> T
     /// `ID targs?`
     fn named(&self, tokens: &mut Tokens<'_>) -> Result<TypeReference, ParseError>
         requires { ReadsBelow self.now.room (F.pre self.now.read) (F.post self.now.read) }
-        ensures { ReadsAs type_tree (readers.named_type (some_levels self.now.room) (type_parser self.now.room) tokens.old) result tokens.new }
+        ensures { ReadsAs type_tree
+            (readers.named_type (some_levels self.now.room) (type_parser self.now.room) tokens.old) result tokens.new }
     {
         let token = expect_identifier(tokens)?;
         let name = name_of(self.alloc, token)?;
@@ -112,7 +117,8 @@ impl<F: Fn(Global, u32, &mut Tokens<'_>) -> Result<TypeReference, ParseError>> T
     /// `ID targs? '?'?`
     fn named_or_nullable(&self, tokens: &mut Tokens<'_>) -> Result<TypeReference, ParseError>
         requires { ReadsBelow self.now.room (F.pre self.now.read) (F.post self.now.read) }
-        ensures { ReadsAs type_tree (named_or_nullable (some_levels self.now.room) (type_parser self.now.room) tokens.old) result tokens.new }
+        ensures { ReadsAs type_tree
+            (named_or_nullable (some_levels self.now.room) (type_parser self.now.room) tokens.old) result tokens.new }
     {
         let inner = self.named(tokens)?;
         maybe_nullable(self.alloc, inner, tokens)
@@ -126,7 +132,9 @@ impl<F: Fn(Global, u32, &mut Tokens<'_>) -> Result<TypeReference, ParseError>> T
         tokens: &mut Tokens<'_>,
     ) -> Result<TypeReference, ParseError>
         requires { ReadsBelow self.now.room (F.pre self.now.read) (F.post self.now.read) }
-        ensures { ReadsAs type_tree (readers.result_type suspends (type_parser self.now.room) (map type_tree parameters) tokens.old) result tokens.new }
+        ensures { ReadsAs type_tree
+            (readers.result_type suspends (type_parser self.now.room) (map type_tree parameters) tokens.old)
+            result tokens.new }
     {
         let outcome = self.inner_expression(tokens)?;
         Ok(function(self.alloc, suspends, parameters, outcome)?)
@@ -151,7 +159,8 @@ impl<F: Fn(Global, u32, &mut Tokens<'_>) -> Result<TypeReference, ParseError>> T
         tokens: &mut Tokens<'_>,
     ) -> Result<TypeReference, ParseError>
         requires { ReadsBelow self.now.room (F.pre self.now.read) (F.post self.now.read) }
-        ensures { ReadsAs type_tree (readers.behind_types (type_parser self.now.room) (map type_tree types) tokens.old) result tokens.new }
+        ensures { ReadsAs type_tree (readers.behind_types (type_parser self.now.room) (map type_tree types) tokens.old)
+            result tokens.new }
     {
         match tokens.take_sign(Sign::Arrow) {
             Some(_) => self.outcome(false, types, tokens),
@@ -168,7 +177,8 @@ impl<F: Fn(Global, u32, &mut Tokens<'_>) -> Result<TypeReference, ParseError>> T
     /// Behind `(`: a function type, or a type in parentheses.
     fn behind_parenthesis(&self, tokens: &mut Tokens<'_>) -> Result<TypeReference, ParseError>
         requires { ReadsBelow self.now.room (F.pre self.now.read) (F.post self.now.read) }
-        ensures { ReadsAs type_tree (readers.behind_parenthesis (type_parser self.now.room) tokens.old) result tokens.new }
+        ensures { ReadsAs type_tree (readers.behind_parenthesis (type_parser self.now.room) tokens.old)
+            result tokens.new }
     {
         let types = self.maybe_several(Sign::CloseParenthesis, tokens)?;
         self.behind_types(types, tokens)
@@ -176,7 +186,8 @@ impl<F: Fn(Global, u32, &mut Tokens<'_>) -> Result<TypeReference, ParseError>> T
 
     fn whole(&self, tokens: &mut Tokens<'_>) -> Result<TypeReference, ParseError>
         requires { ReadsBelow self.now.room (F.pre self.now.read) (F.post self.now.read) }
-        ensures { ReadsAs type_tree (readers.type_over (some_levels self.now.room) (type_parser self.now.room) tokens.old) result tokens.new }
+        ensures { ReadsAs type_tree
+            (readers.type_over (some_levels self.now.room) (type_parser self.now.room) tokens.old) result tokens.new }
     {
         if self.room == 0 {
             return self.named_or_nullable(tokens);
@@ -273,7 +284,8 @@ pub fn named_type(
     room: u32,
     tokens: &mut Tokens<'_>,
 ) -> Result<TypeReference, ParseError>
-    ensures { ReadsAs type_tree (readers.named_type (some_levels room) (type_parser room) tokens.old) result tokens.new }
+    ensures { ReadsAs type_tree (readers.named_type (some_levels room) (type_parser room) tokens.old)
+        result tokens.new }
 {
     TypesBelow {
         alloc,

@@ -57,7 +57,17 @@ pub fn function(
     outcome: Option<TypeReference>,
     body: Option<FunctionBody>,
 ) -> FunctionDeclaration
-    ensures { function_tree result ≡ record { at = at; modifiers = modifiers; type_parameters = map type_parameter_tree type_parameters; name = name; parameters = map typed_parameter_tree parameters; result = maybe_type outcome; body = maybe_function_body body } }
+    ensures { function_tree result ≡ record {
+      at = at;
+      modifiers = modifiers;
+      type_parameters = map type_parameter_tree type_parameters;
+      name =
+          name;
+      parameters = map typed_parameter_tree parameters;
+      result = maybe_type outcome;
+      body =
+          maybe_function_body body;
+    } }
 {
     FunctionDeclaration {
         at,
@@ -75,7 +85,12 @@ pub fn constructor_parameter(
     kind: ConstructorParameterKind,
     declared: Parameter,
 ) -> ConstructorParameter
-    ensures { constructor_parameter_tree result ≡ record { kind = kind; name = (typed_parameter_tree declared).name; annotation = (typed_parameter_tree declared).annotation } }
+    ensures { constructor_parameter_tree result ≡ record {
+      kind = kind;
+      name = (typed_parameter_tree declared).name;
+      annotation =
+          (typed_parameter_tree declared).annotation;
+    } }
 {
     ConstructorParameter {
         kind,
@@ -96,7 +111,8 @@ fn place_of_arguments(parenthesis: &Token, values: &[Expression]) -> Pos
 
 /// `'(' args? ')'` behind a supertype, with the `(`
 pub fn super_arguments(parenthesis: &Token, values: Items<Expression>) -> SuperArguments
-    ensures { super_arguments_tree result ≡ record { at = arguments_at parenthesis.now (map expression_tree values); values = map expression_tree values } }
+    ensures { super_arguments_tree result ≡ record
+        { at = arguments_at parenthesis.now (map expression_tree values); values = map expression_tree values } }
 {
     let at = place_of_arguments(parenthesis, values.as_slice());
     SuperArguments { at, values }
@@ -116,7 +132,14 @@ pub fn property(
     declared: Parameter,
     initializer: Expression,
 ) -> PropertyDeclaration
-    ensures { property_tree result ≡ record { at = at; is_variable = variable; name = (typed_parameter_tree declared).name; annotation = (typed_parameter_tree declared).annotation; initializer = expression_tree initializer } }
+    ensures { property_tree result ≡ record {
+      at = at;
+      is_variable = variable;
+      name = (typed_parameter_tree declared).name;
+      annotation =
+          (typed_parameter_tree declared).annotation;
+      initializer = expression_tree initializer;
+    } }
 {
     PropertyDeclaration {
         at,
@@ -151,7 +174,17 @@ pub fn class(
     supertypes: Items<Supertype>,
     members: Items<ClassMember>,
 ) -> ClassDeclaration
-    ensures { class_tree result ≡ record { at = at; modifiers = modifiers; name = name; type_parameters = map type_parameter_tree type_parameters; parameters = map constructor_parameter_tree parameters; supertypes = map supertype_tree supertypes; members = map member_tree members } }
+    ensures { class_tree result ≡ record {
+      at = at;
+      modifiers = modifiers;
+      name = name;
+      type_parameters =
+          map type_parameter_tree type_parameters;
+      parameters = map constructor_parameter_tree parameters;
+      supertypes =
+          map supertype_tree supertypes;
+      members = map member_tree members;
+    } }
 {
     ClassDeclaration {
         at,
@@ -172,7 +205,14 @@ pub fn interface(
     supertypes: Items<TypeReference>,
     functions: Items<FunctionDeclaration>,
 ) -> InterfaceDeclaration
-    ensures { interface_tree result ≡ record { at = at; name = name; type_parameters = map type_parameter_tree type_parameters; supertypes = map type_tree supertypes; functions = map function_tree functions } }
+    ensures { interface_tree result ≡ record {
+      at = at;
+      name = name;
+      type_parameters = map type_parameter_tree type_parameters;
+      supertypes =
+          map type_tree supertypes;
+      functions = map function_tree functions;
+    } }
 {
     InterfaceDeclaration {
         at,

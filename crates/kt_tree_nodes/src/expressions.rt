@@ -87,7 +87,8 @@ pub fn parameter(name: Name, annotation: Option<TypeReference>) -> LambdaParamet
 
 /// `'{' (parameters '->')? statements '}'`
 pub fn lambda(at: Pos, parameters: Items<LambdaParameter>, body: Block) -> Expression
-    ensures { expression_tree result ≡ tree.lambda at (tree.lambda_of (map parameter_tree parameters) (block_tree body)) }
+    ensures { expression_tree result ≡ tree.lambda at
+        (tree.lambda_of (map parameter_tree parameters) (block_tree body)) }
 {
     Expression {
         at,
@@ -118,7 +119,9 @@ pub fn binary(
     left: Expression,
     right: Expression,
 ) -> Result<Expression, NoMemory>
-    ensures { IfOk result (λ e. expression_tree e ≡ tree.binary (place (expression_tree left)) operator (expression_tree left) (expression_tree right)) }
+    ensures { IfOk result
+        (λ e. expression_tree e ≡ tree.binary (place (expression_tree left)) operator (expression_tree left)
+        (expression_tree right)) }
 {
     let at = place_of(&left);
     let left = Boxed::new(alloc, left)?;
@@ -136,7 +139,9 @@ pub fn type_check(
     negated: bool,
     written: TypeReference,
 ) -> Result<Expression, NoMemory>
-    ensures { IfOk result (λ e. expression_tree e ≡ tree.type_check (place (expression_tree value)) (expression_tree value) negated (type_tree written)) }
+    ensures { IfOk result
+        (λ e. expression_tree e ≡ tree.type_check (place (expression_tree value)) (expression_tree value) negated
+        (type_tree written)) }
 {
     let at = place_of(&value);
     let value = Boxed::new(alloc, value)?;
@@ -153,7 +158,9 @@ pub fn cast(
     safe: bool,
     written: TypeReference,
 ) -> Result<Expression, NoMemory>
-    ensures { IfOk result (λ e. expression_tree e ≡ tree.cast (place (expression_tree value)) (expression_tree value) safe (type_tree written)) }
+    ensures { IfOk result
+        (λ e. expression_tree e ≡ tree.cast (place (expression_tree value)) (expression_tree value) safe
+        (type_tree written)) }
 {
     let at = place_of(&value);
     let value = Boxed::new(alloc, value)?;
@@ -165,7 +172,8 @@ pub fn cast(
 
 /// `value '!!'`
 pub fn not_null(alloc: Global, value: Expression) -> Result<Expression, NoMemory>
-    ensures { IfOk result (λ e. expression_tree e ≡ tree.not_null (place (expression_tree value)) (expression_tree value)) }
+    ensures { IfOk result
+        (λ e. expression_tree e ≡ tree.not_null (place (expression_tree value)) (expression_tree value)) }
 {
     let at = place_of(&value);
     let value = Boxed::new(alloc, value)?;
@@ -182,7 +190,8 @@ pub fn member(
     safe: bool,
     name: Name,
 ) -> Result<Expression, NoMemory>
-    ensures { IfOk result (λ e. expression_tree e ≡ tree.member (place (expression_tree value)) (expression_tree value) safe name) }
+    ensures { IfOk result
+        (λ e. expression_tree e ≡ tree.member (place (expression_tree value)) (expression_tree value) safe name) }
 {
     let at = place_of(&value);
     let value = Boxed::new(alloc, value)?;
@@ -194,7 +203,9 @@ pub fn member(
 
 /// `value '[' index ']'`
 pub fn index(alloc: Global, value: Expression, index: Expression) -> Result<Expression, NoMemory>
-    ensures { IfOk result (λ e. expression_tree e ≡ tree.index (place (expression_tree value)) (expression_tree value) (expression_tree index)) }
+    ensures { IfOk result
+        (λ e. expression_tree e ≡ tree.index (place (expression_tree value)) (expression_tree value)
+        (expression_tree index)) }
 {
     let at = place_of(&value);
     let value = Boxed::new(alloc, value)?;
@@ -212,7 +223,9 @@ pub fn call(
     types: Items<TypeReference>,
     arguments: Items<Expression>,
 ) -> Result<Expression, NoMemory>
-    ensures { IfOk result (λ e. expression_tree e ≡ tree.call (place (expression_tree called)) (expression_tree called) (map type_tree types) (expressions_of (map expression_tree arguments))) }
+    ensures { IfOk result
+        (λ e. expression_tree e ≡ tree.call (place (expression_tree called)) (expression_tree called)
+        (map type_tree types) (expressions_of (map expression_tree arguments))) }
 {
     let at = place_of(&called);
     let called = Boxed::new(alloc, called)?;
@@ -230,7 +243,9 @@ pub fn if_else(
     then: ControlStructureBody,
     otherwise: Option<ControlStructureBody>,
 ) -> Result<Expression, NoMemory>
-    ensures { IfOk result (λ e. expression_tree e ≡ tree.if_else at (expression_tree condition) (body_tree then) (maybe_body (option_map body_tree otherwise))) }
+    ensures { IfOk result
+        (λ e. expression_tree e ≡ tree.if_else at (expression_tree condition) (body_tree then)
+        (maybe_body (option_map body_tree otherwise))) }
 {
     let condition = Boxed::new(alloc, condition)?;
     Ok(Expression {
@@ -246,7 +261,9 @@ pub fn when(
     subject: Option<Expression>,
     entries: Items<WhenEntry>,
 ) -> Result<Expression, NoMemory>
-    ensures { IfOk result (λ e. expression_tree e ≡ tree.when at (maybe_expression (option_map expression_tree subject)) (entries_of (map entry_tree entries))) }
+    ensures { IfOk result
+        (λ e. expression_tree e ≡ tree.when at (maybe_expression (option_map expression_tree subject))
+        (entries_of (map entry_tree entries))) }
 {
     let subject = maybe_boxed(alloc, subject)?;
     Ok(Expression {
@@ -262,7 +279,8 @@ pub fn try_catch(
     catches: Items<CatchBlock>,
     last: Option<Block>,
 ) -> Expression
-    ensures { expression_tree result ≡ tree.try_catch at (block_tree block) (catches_of (map catch_tree catches)) (maybe_block (option_map block_tree last)) }
+    ensures { expression_tree result ≡ tree.try_catch at (block_tree block) (catches_of (map catch_tree catches))
+        (maybe_block (option_map block_tree last)) }
 {
     Expression {
         at,
@@ -287,7 +305,8 @@ pub fn return_with(
     at: Pos,
     value: Option<Expression>,
 ) -> Result<Expression, NoMemory>
-    ensures { IfOk result (λ e. expression_tree e ≡ tree.return at (maybe_expression (option_map expression_tree value))) }
+    ensures { IfOk result
+        (λ e. expression_tree e ≡ tree.return at (maybe_expression (option_map expression_tree value))) }
 {
     let value = maybe_boxed(alloc, value)?;
     Ok(Expression {

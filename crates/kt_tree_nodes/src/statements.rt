@@ -24,7 +24,9 @@ pub fn local(
     annotation: Option<TypeReference>,
     initializer: Option<Expression>,
 ) -> Result<Statement, NoMemory>
-    ensures { IfOk result (λ s. statement_tree s ≡ tree.local at variable name (maybe_type annotation) (maybe_expression (option_map expression_tree initializer))) }
+    ensures { IfOk result
+        (λ s. statement_tree s ≡ tree.local at variable name (maybe_type annotation)
+        (maybe_expression (option_map expression_tree initializer))) }
 {
     let initializer = maybe_boxed(alloc, initializer)?;
     Ok(Statement {
@@ -40,7 +42,9 @@ pub fn assign(
     operator: AssignmentOperator,
     value: Expression,
 ) -> Result<Statement, NoMemory>
-    ensures { IfOk result (λ s. statement_tree s ≡ tree.assign (place (expression_tree target)) (expression_tree target) operator (expression_tree value)) }
+    ensures { IfOk result
+        (λ s. statement_tree s ≡ tree.assign (place (expression_tree target)) (expression_tree target) operator
+        (expression_tree value)) }
 {
     let at = place_of(&target);
     let target = Boxed::new(alloc, target)?;
@@ -57,7 +61,8 @@ pub fn step(
     target: Expression,
     operator: StepOperator,
 ) -> Result<Statement, NoMemory>
-    ensures { IfOk result (λ s. statement_tree s ≡ tree.step (place (expression_tree target)) (expression_tree target) operator) }
+    ensures { IfOk result
+        (λ s. statement_tree s ≡ tree.step (place (expression_tree target)) (expression_tree target) operator) }
 {
     let at = place_of(&target);
     let target = Boxed::new(alloc, target)?;
@@ -109,7 +114,9 @@ pub fn for_loop(
     bound: Expression,
     body: ControlStructureBody,
 ) -> Result<Statement, NoMemory>
-    ensures { IfOk result (λ s. statement_tree s ≡ tree.for at name (expression_tree first) operator (expression_tree bound) (body_tree body)) }
+    ensures { IfOk result
+        (λ s. statement_tree s ≡ tree.for at name (expression_tree first) operator (expression_tree bound)
+        (body_tree body)) }
 {
     let first = Boxed::new(alloc, first)?;
     let bound = Boxed::new(alloc, bound)?;
@@ -121,7 +128,8 @@ pub fn for_loop(
 
 /// `expr`
 pub fn evaluate(alloc: Global, value: Expression) -> Result<Statement, NoMemory>
-    ensures { IfOk result (λ s. statement_tree s ≡ tree.evaluate (place (expression_tree value)) (expression_tree value)) }
+    ensures { IfOk result
+        (λ s. statement_tree s ≡ tree.evaluate (place (expression_tree value)) (expression_tree value)) }
 {
     let at = place_of(&value);
     let value = Boxed::new(alloc, value)?;

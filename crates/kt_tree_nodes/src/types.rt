@@ -23,7 +23,8 @@ pub fn function(
     parameters: Items<TypeReference>,
     outcome: TypeReference,
 ) -> Result<TypeReference, NoMemory>
-    ensures { IfOk result (λ t. type_tree t ≡ tree.function suspends (types_of (map type_tree parameters)) (type_tree outcome)) }
+    ensures { IfOk result
+        (λ t. type_tree t ≡ tree.function suspends (types_of (map type_tree parameters)) (type_tree outcome)) }
 {
     let outcome = Boxed::new(alloc, outcome)?;
     Ok(TypeReference::Function(suspends, parameters, outcome))

@@ -30,7 +30,8 @@ text_of values = flat_map (λ n. printed (print_of n)) values
 abbrev pub course_of : List ℤ → List (Answer Lump) → Course
 course_of [] answers = record { events = []; end = Some end.Returned }
 course_of (n ∷ values) [] = record { events = print_of n ∷ []; end = None }
-course_of (n ∷ values) (answer ∷ answers) = record { events = print_of n ∷ (course_of values answers).events; end = (course_of values answers).end }
+course_of (n ∷ values) (answer ∷ answers) =
+    record { events = print_of n ∷ (course_of values answers).events; end = (course_of values answers).end }
 
 -- the meaning of a program that prints these values: nothing is launched, so that the start is always that of `main`,
 -- and at most 512 steps spend few of the 10,000,000 turns of a coroutine

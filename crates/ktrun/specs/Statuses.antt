@@ -51,7 +51,8 @@ Wrote contents name choices before after = (text : List ℕ) × Ran contents nam
 
 -- it was run, and a prefix of its text was taken, where that is told
 abbrev pub WrotePrefix : Contents → List ℕ → List ℕ → Option (List ℕ) → Option (List ℕ) → Type 0
-WrotePrefix contents name choices before after = (text : List ℕ) × Ran contents name choices text × AppendsPrefix before after text
+WrotePrefix contents name choices before after = (text : List ℕ) × Ran contents name choices text
+    × AppendsPrefix before after text
 
 -- the source is a file of the language that isn't of the first subset
 abbrev pub IsForeign : List ℕ → Type 0

@@ -15,5 +15,6 @@ is_one_worker _ = false
 
 -- the file that `run NAME` or `run NAME --workers 1` asks to run; all other words ask for nothing
 abbrev pub file_to_run : List (List ℕ) → Option (List ℕ)
-file_to_run (mode ∷ name ∷ options) = if bytes_eq mode (codes "run") && is_name name && is_one_worker options then Some name else None
+file_to_run (mode ∷ name ∷ options) = if bytes_eq mode (codes "run") && is_name name && is_one_worker options
+    then Some name else None
 file_to_run _ = None

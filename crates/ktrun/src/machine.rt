@@ -23,7 +23,9 @@ pub fn printed_by(alloc: Global, code: &[Plain]) -> Result<Vec<i32>, NoMemory>
 /// Takes one step.
 fn take_step(stack: &mut Vec<i32>, printed: &mut Vec<i32>, step: Plain) -> Result<(), NoMemory>
     requires { IsSome (stepped step (reverse stack.old.items) printed.old.items) }
-    ensures { OnOk result (stepped step (reverse stack.old.items) printed.old.items ≡ Some (record { stack = reverse stack.new.items; printed = printed.new.items })) }
+    ensures { OnOk result
+        (stepped step (reverse stack.old.items) printed.old.items ≡ Some
+        (record { stack = reverse stack.new.items; printed = printed.new.items })) }
 {
     match step {
         Plain::Push(n) => stack.push(n)?,

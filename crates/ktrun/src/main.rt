@@ -38,7 +38,8 @@ fn main(rt: HostRuntime) -> ExitCode {
 fn refuse<E: Sink>(err: &mut E, kind: ErrorKind) -> u8
     ensures no_memory { kind ≡ ErrorKind.OutOfMemory → result ≡ 6 }
     ensures usage { kind ≢ ErrorKind.OutOfMemory → result ≡ 2 }
-    ensures line { TookOrFailed (E.taken err.old) (E.taken err.new) (E.faults err.old) (E.faults err.new) (status_line result []) }
+    ensures line { TookOrFailed (E.taken err.old) (E.taken err.new) (E.faults err.old) (E.faults err.new)
+        (status_line result []) }
 {
     let status = match kind {
         ErrorKind::OutOfMemory => NO_MEMORY,

@@ -42,31 +42,42 @@ pub fn plain_main<F: Files, O: Sink, E: Sink>(
     ensures usage { file_to_run (map string_bytes words.now) ≡ None → result.status ≡ 2 }
     ensures usage_only { result.status ≡ 2 → file_to_run (map string_bytes words.now) ≡ None }
 
-    ensures done { result.status ≡ 0 → (name : List ℕ) → file_to_run (map string_bytes words.now) ≡ Some name → Wrote (F.held files.old) name result.choices.items (O.taken out.old) (O.taken out.new) }
-    ensures complete { (name source : List ℕ) → file_to_run (map string_bytes words.now) ≡ Some name → Holds (F.held files.old) name source → IsOfFirst source
+    ensures done { result.status ≡ 0 → (name : List ℕ) → file_to_run (map string_bytes words.now) ≡ Some name
+        → Wrote (F.held files.old) name result.choices.items (O.taken out.old) (O.taken out.new) }
+    ensures complete { (name source : List ℕ) → file_to_run (map string_bytes words.now) ≡ Some name
+        → Holds (F.held files.old) name source → IsOfFirst source
         → F.read_faults files.new ≡ F.read_faults files.old → ¬ (Rose (O.faults out.old) (O.faults out.new)) → (result.status ≡ 0) ⊎ (result.status ≡ 6) }
 
-    ensures write_fault { result.status ≡ 8 → (name : List ℕ) → file_to_run (map string_bytes words.now) ≡ Some name → WrotePrefix (F.held files.old) name result.choices.items (O.taken out.old) (O.taken out.new) }
+    ensures write_fault { result.status ≡ 8 → (name : List ℕ) → file_to_run (map string_bytes words.now) ≡ Some name
+        → WrotePrefix (F.held files.old) name result.choices.items (O.taken out.old) (O.taken out.new) }
     ensures write_rose { result.status ≡ 8 → Rose (O.faults out.old) (O.faults out.new) }
     ensures no_write_fault { result.status ≢ 8 → O.faults out.new ≡ O.faults out.old }
-    ensures read_fault { result.status ≡ 7 → (name : List ℕ) → file_to_run (map string_bytes words.now) ≡ Some name → Adds name (F.read_faults files.old) (F.read_faults files.new) }
+    ensures read_fault { result.status ≡ 7 → (name : List ℕ) → file_to_run (map string_bytes words.now) ≡ Some name
+        → Adds name (F.read_faults files.old) (F.read_faults files.new) }
     ensures no_read_fault { result.status ≢ 7 → F.read_faults files.new ≡ F.read_faults files.old }
     ensures refused { result.status ≡ 1 → (name : List ℕ) → file_to_run (map string_bytes words.now) ≡ Some name
         → (r : Refusal) × HoldsRefused (F.held files.old) name r × TookOrFailed (E.taken err.old) (E.taken err.new) (E.faults err.old) (E.faults err.new) (line (refusal_text r)) }
-    ensures refuses { (name source : List ℕ) (r : Refusal) → file_to_run (map string_bytes words.now) ≡ Some name → Holds (F.held files.old) name source → IsRefused source r
+    ensures refuses { (name source : List ℕ) (r : Refusal) → file_to_run (map string_bytes words.now) ≡ Some name
+        → Holds (F.held files.old) name source → IsRefused source r
         → F.read_faults files.new ≡ F.read_faults files.old → (result.status ≡ 1) ⊎ (result.status ≡ 6) }
-    ensures not_built { result.status ≡ 11 → (name : List ℕ) → file_to_run (map string_bytes words.now) ≡ Some name → HoldsForeign (F.held files.old) name }
-    ensures foreign { (name source : List ℕ) → file_to_run (map string_bytes words.now) ≡ Some name → Holds (F.held files.old) name source → IsForeign source
+    ensures not_built { result.status ≡ 11 → (name : List ℕ) → file_to_run (map string_bytes words.now) ≡ Some name
+        → HoldsForeign (F.held files.old) name }
+    ensures foreign { (name source : List ℕ) → file_to_run (map string_bytes words.now) ≡ Some name
+        → Holds (F.held files.old) name source → IsForeign source
         → F.read_faults files.new ≡ F.read_faults files.old → (result.status ≡ 11) ⊎ (result.status ≡ 6) }
 
     ensures nothing_written { IsEarly result.status → Keeps (O.taken out.old) (O.taken out.new) }
     ensures no_choices { IsEarly result.status → result.choices.items ≡ [] }
-    ensures line { result.status ≢ 1 → TookOrFailed (E.taken err.old) (E.taken err.new) (E.faults err.old) (E.faults err.new) (status_line result.status (name_of (file_to_run (map string_bytes words.now)))) }
+    ensures line { result.status ≢ 1
+        → TookOrFailed (E.taken err.old) (E.taken err.new) (E.faults err.old) (E.faults err.new)
+        (status_line result.status (name_of (file_to_run (map string_bytes words.now)))) }
 
     ensures files_stay { F.held files.new ≡ F.held files.old }
     ensures no_put { F.put_faults files.new ≡ F.put_faults files.old }
-    ensures reads_one { (name : List ℕ) → file_to_run (map string_bytes words.now) ≡ Some name → MayAdd name (F.read_faults files.old) (F.read_faults files.new) }
-    ensures reads_none { file_to_run (map string_bytes words.now) ≡ None → F.read_faults files.new ≡ F.read_faults files.old }
+    ensures reads_one { (name : List ℕ) → file_to_run (map string_bytes words.now) ≡ Some name
+        → MayAdd name (F.read_faults files.old) (F.read_faults files.new) }
+    ensures reads_none { file_to_run (map string_bytes words.now) ≡ None
+        → F.read_faults files.new ≡ F.read_faults files.old }
 {
     match file_to_run(words) {
         Some(name) => run_named(alloc, name, files, out, err),
@@ -83,17 +94,23 @@ fn run_named<F: Files, O: Sink, E: Sink>(
     err: &mut E,
 ) -> Outcome
     ensures statuses { IsRunStatus result.status }
-    ensures done { result.status ≡ 0 → Wrote (F.held files.old) name.now result.choices.items (O.taken out.old) (O.taken out.new) }
-    ensures write_fault { result.status ≡ 8 → WrotePrefix (F.held files.old) name.now result.choices.items (O.taken out.old) (O.taken out.new) }
+    ensures done { result.status ≡ 0
+        → Wrote (F.held files.old) name.now result.choices.items (O.taken out.old) (O.taken out.new) }
+    ensures write_fault { result.status ≡ 8
+        → WrotePrefix (F.held files.old) name.now result.choices.items (O.taken out.old) (O.taken out.new) }
     ensures write_rose { result.status ≡ 8 → Rose (O.faults out.old) (O.faults out.new) }
     ensures no_write_fault { result.status ≢ 8 → O.faults out.new ≡ O.faults out.old }
     ensures read_fault { result.status ≡ 7 → Adds name.now (F.read_faults files.old) (F.read_faults files.new) }
     ensures no_read_fault { result.status ≢ 7 → F.read_faults files.new ≡ F.read_faults files.old }
-    ensures refused { result.status ≡ 1 → (r : Refusal) × HoldsRefused (F.held files.old) name.now r × TookOrFailed (E.taken err.old) (E.taken err.new) (E.faults err.old) (E.faults err.new) (line (refusal_text r)) }
+    ensures refused { result.status ≡ 1 → (r : Refusal) × HoldsRefused (F.held files.old) name.now r
+        × TookOrFailed (E.taken err.old) (E.taken err.new) (E.faults err.old) (E.faults err.new)
+        (line (refusal_text r)) }
     ensures not_built { result.status ≡ 11 → HoldsForeign (F.held files.old) name.now }
     ensures nothing_written { IsEarly result.status → Keeps (O.taken out.old) (O.taken out.new) }
     ensures no_choices { IsEarly result.status → result.choices.items ≡ [] }
-    ensures line { result.status ≢ 1 → TookOrFailed (E.taken err.old) (E.taken err.new) (E.faults err.old) (E.faults err.new) (status_line result.status name.now) }
+    ensures line { result.status ≢ 1
+        → TookOrFailed (E.taken err.old) (E.taken err.new) (E.faults err.old) (E.faults err.new)
+        (status_line result.status name.now) }
     ensures files_stay { F.held files.new ≡ F.held files.old }
     ensures no_put { F.put_faults files.new ≡ F.put_faults files.old }
     ensures reads_one { MayAdd name.now (F.read_faults files.old) (F.read_faults files.new) }
@@ -115,8 +132,11 @@ fn run_named<F: Files, O: Sink, E: Sink>(
 /// Tells how a text is refused, which takes memory for its line.
 fn refuse<E: Sink>(alloc: Global, err: &mut E, refusal: Refusal) -> Outcome
     ensures statuses { (result.status ≡ 1) ⊎ (result.status ≡ 6) }
-    ensures refused { result.status ≡ 1 → TookOrFailed (E.taken err.old) (E.taken err.new) (E.faults err.old) (E.faults err.new) (line (refusal_text refusal)) }
-    ensures no_memory { result.status ≡ 6 → TookOrFailed (E.taken err.old) (E.taken err.new) (E.faults err.old) (E.faults err.new) (status_line 6 []) }
+    ensures refused { result.status ≡ 1
+        → TookOrFailed (E.taken err.old) (E.taken err.new) (E.faults err.old) (E.faults err.new)
+        (line (refusal_text refusal)) }
+    ensures no_memory { result.status ≡ 6
+        → TookOrFailed (E.taken err.old) (E.taken err.new) (E.faults err.old) (E.faults err.new) (status_line 6 []) }
     ensures no_choices { result.choices.items ≡ [] }
 {
     match refusal.to_string(alloc) {
@@ -129,7 +149,8 @@ fn refuse<E: Sink>(alloc: Global, err: &mut E, refusal: Refusal) -> Outcome
 fn stopped<E: Sink>(alloc: Global, err: &mut E, status: u8, told: &str) -> Outcome
     ensures status { result.status ≡ status }
     ensures no_choices { result.choices.items ≡ [] }
-    ensures line { TookOrFailed (E.taken err.old) (E.taken err.new) (E.faults err.old) (E.faults err.new) (status_line status told.now) }
+    ensures line { TookOrFailed (E.taken err.old) (E.taken err.new) (E.faults err.old) (E.faults err.new)
+        (status_line status told.now) }
 {
     // A fault of this stream changes nothing.
     let _ = write_line(err, status, told);
@@ -142,7 +163,8 @@ fn stopped<E: Sink>(alloc: Global, err: &mut E, status: u8, told: &str) -> Outco
 /// Writes what a run printed.
 fn deliver<O: Sink>(out: &mut O, run: Finished) -> Outcome
     ensures done { result.status ≡ 0 → Appends (O.taken out.old) (O.taken out.new) run.text.items }
-    ensures write_fault { result.status ≡ 8 → AppendsPrefix (O.taken out.old) (O.taken out.new) run.text.items × Rose (O.faults out.old) (O.faults out.new) }
+    ensures write_fault { result.status ≡ 8 → AppendsPrefix (O.taken out.old) (O.taken out.new) run.text.items
+        × Rose (O.faults out.old) (O.faults out.new) }
     ensures no_fault { result.status ≢ 8 → O.faults out.new ≡ O.faults out.old }
     ensures only { (result.status ≡ 0) ⊎ (result.status ≡ 8) }
     ensures choices { result.choices.items ≡ run.choices.items }

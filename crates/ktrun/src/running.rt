@@ -89,7 +89,8 @@ impl From<NoMemory> for Stop {
 /// Runs the file of this name.
 pub fn run_file<F: Files>(alloc: Global, name: &str, files: &mut F) -> Result<Finished, Stop>
     ensures ran { IfOk result (λ run. Ran (F.held files.old) name.now run.choices.items run.text.items) }
-    ensures read_fault { result ≡ Err Stop.ReadFault → Adds name.now (F.read_faults files.old) (F.read_faults files.new) }
+    ensures read_fault { result ≡ Err Stop.ReadFault
+        → Adds name.now (F.read_faults files.old) (F.read_faults files.new) }
     ensures no_read_fault { result ≢ Err Stop.ReadFault → F.read_faults files.new ≡ F.read_faults files.old }
     ensures not_built { result ≡ Err Stop.NotBuilt → HoldsForeign (F.held files.old) name.now }
     ensures refused { (r : Refusal) → result ≡ Err (Stop.Refused r) → HoldsRefused (F.held files.old) name.now r }
@@ -131,7 +132,9 @@ fn through_class(alloc: Global, code: &[Plain]) -> Result<Vec<Plain>, NoMemory>
 /// Runs the code of a program.
 fn run_code(alloc: Global, code: &[Plain]) -> Result<Finished, NoMemory>
     requires { (values : List ℤ) × Prints code.now values }
-    ensures { IfOk result (λ run. (values : List ℤ) × Prints code.now values × (run.text.items ≡ text_of values) × (run.choices.items ≡ map (λ _. 0) values)) }
+    ensures { IfOk result
+        (λ run. (values : List ℤ) × Prints code.now values × (run.text.items ≡ text_of values)
+        × (run.choices.items ≡ map (λ _. 0) values)) }
 {
     let values = printed_by(alloc, code)?;
     let text = text_of(alloc, values.as_slice())?;

@@ -6,7 +6,8 @@ ghost use Rattle.ktrun.specs.Words.{is_name, is_one_worker, file_to_run};
 
 /// The file that the words ask to run: those of `run NAME` or `run NAME --workers 1`.
 pub fn file_to_run(words: &[String]) -> Option<&str>
-    ensures { MatchOption result (file_to_run (map string_bytes words.now) ≡ None) (λ name. file_to_run (map string_bytes words.now) ≡ Some name.now) }
+    ensures { MatchOption result (file_to_run (map string_bytes words.now) ≡ None)
+        (λ name. file_to_run (map string_bytes words.now) ≡ Some name.now) }
 {
     match words {
         [mode, name, options @ ..]
