@@ -125,7 +125,7 @@ fn one_index_is_left(rt: HostRuntime) -> Result<(), Fail> {
 fn entries_as_they_stand(rt: HostRuntime) -> Result<(), Fail> {
     let mut pool = Pool::new(rt.alloc());
     pool.push(Entry::Long(7))?;
-    pool.push(entry(rt.alloc(), 'C', "A", "")?)?;
+    pool.push(Entry::Class(name(rt.alloc(), "A")?))?;
     assert_eq!(rt; pool.get(3), Some(&entry(rt.alloc(), 'C', "A", "")?));
     assert_eq!(rt; pool.count(), 4);
     let entries = vec![in rt.alloc(); Entry::Int(1), Entry::Long(7)]?;
