@@ -3,7 +3,7 @@ use Rattle.std.proofs.Common.{◌≡◌, ℕ, true, false, Bool, List, length, O
 use Rattle.std.specs.Prelude.{option_map, nat_le, ◌≤◌, MatchResult, Vec, if◌then◌else◌}
 use Rattle.std.specs.Result.{IfOk, IsErr, IsErrAnd}
 use Rattle.std.specs.declared.alloc.Global.{Global}
-use borrow.Author.Tests.{le-leb}
+use Rattle.std.proofs.lemmas.Bool.{le-leb, leb-true}
 use Rattle.kt_base.specs.declared.refusals.FrontErr.{FrontErr}
 use Rattle.kt_base.specs.declared.refusals.FrontErr.TheVariants as front_err
 use Rattle.kt_base.specs.declared.stack_code.Plain.{Plain}
