@@ -5,4 +5,10 @@
 //! and the place of the refusal; the laws of its parts give its own.
 #![tactic(auto)]
 
+pub mod errors;
 pub mod laws;
+pub mod numbers;
+pub mod places;
+
+pub use errors::ReadErr;
+pub use places::Place;
