@@ -1,0 +1,4 @@
+//! Types of the language: subtyping, substitution, what a type allows, and what every program has built in.
+#![tactic(auto)]
+
+pub mod subtyping;
