@@ -1,4 +1,5 @@
 //! Types of the language: subtyping, substitution, what a type allows, and what every program has built in.
 #![tactic(auto)]
 
+pub mod substitution;
 pub mod subtyping;

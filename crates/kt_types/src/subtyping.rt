@@ -1,18 +1,21 @@
 //! Subtyping (Kotlin specification, "Subtyping").
 
 ghost use Rattle.kt_types.specs.Bounds.{IsAtOnce, IsUnderIn};
+ghost use Rattle.kt_types.specs.Null.{IsWithoutNull, bare};
 ghost use Rattle.kt_types_order.specs.Below.{IsBelow, IsJoin};
 ghost use Rattle.kt_types_order.specs.Climbing.{Allows, IsNoClass, IsUnder};
 ghost use Rattle.kt_types_order.specs.Graph.{ClassesEnd};
 ghost use Rattle.kt_types_tree.specs.Hierarchy.{hierarchy_form};
-ghost use Rattle.kt_types_tree.specs.Types.{any, forms_of, of, parameter, shape_form, type_form};
+ghost use Rattle.kt_types_tree.specs.Types.{any, forms_of, of, parameter, shape_form, type_form, typed};
 ghost use Rattle.kt_types_tree.specs.declared.types.TypeConstructor.TheVariants.{Class};
-ghost use Rattle.std.specs.Prelude.{◌≡◌, ◌↔◌, ◌||◌, IsTrue, MatchOption, false, map, true};
+ghost use Rattle.std.specs.Prelude.{◌≡◌, ◌↔◌, ◌||◌, IfOk, IsTrue, MatchOption, false, map, true};
 
+use kt_base::NoMemory;
 use kt_types_climbing::climbing::climbs;
 use kt_types_tree::equality::{are_same, is_same_constructor};
 use kt_types_tree::{Hierarchy, KtType, TypeConstructor, TypeShape};
 use sqlite_items::at;
+use std::alloc::Global;
 
 /// Whether null is allowed above where it is allowed below.
 fn allows(below: bool, above: bool) -> bool
@@ -176,19 +179,54 @@ fn is_parameter_below(
     }
 }
 
+/// Whether a shape is a subtype of another, each with `?` or without.
+fn is_shape_subtype(
+    h: &Hierarchy,
+    nullable: bool,
+    a: &TypeShape,
+    may: bool,
+    b: &TypeShape,
+) -> bool
+    requires classes { ClassesEnd (hierarchy_form h.now) }
+    ensures { IsTrue result ↔ IsBelow (hierarchy_form h.now) (typed nullable (shape_form a.now)) (typed may (shape_form b.now)) }
+{
+    is_shape_below(h, h.bounds.len(), nullable, a, may, b)
+}
+
 /// Whether the first type is a subtype of the second. No memory is taken.
 pub fn is_subtype(h: &Hierarchy, a: &KtType, b: &KtType) -> bool
     requires classes { ClassesEnd (hierarchy_form h.now) }
     ensures { IsTrue result ↔ IsBelow (hierarchy_form h.now) (type_form a.now) (type_form b.now) }
 {
-    is_shape_below(
-        h,
-        h.bounds.len(),
-        a.nullable,
-        &a.shape,
-        b.nullable,
-        &b.shape,
-    )
+    is_shape_subtype(h, a.nullable, &a.shape, b.nullable, &b.shape)
+}
+
+/// The same of the two types without `?`.
+pub fn is_subtype_but_null(h: &Hierarchy, a: &KtType, b: &KtType) -> bool
+    requires classes { ClassesEnd (hierarchy_form h.now) }
+    ensures { IsTrue result ↔ IsBelow (hierarchy_form h.now) (bare (type_form a.now)) (bare (type_form b.now)) }
+{
+    is_shape_subtype(h, false, &a.shape, false, &b.shape)
+}
+
+/// Whether a type without `?` can't be null, which a type parameter can where its bound can.
+fn is_below_any(h: &Hierarchy, t: &KtType) -> bool
+    requires classes { ClassesEnd (hierarchy_form h.now) }
+    ensures { IsTrue result ↔ IsBelow (hierarchy_form h.now) (bare (type_form t.now)) (typed false any) }
+{
+    is_subtype_but_null(h, t, &KtType::any(false))
+}
+
+/// What a value of the type is where it isn't null: the type without `?`, and `Any` where that can still be null.
+pub fn without_null(alloc: Global, h: &Hierarchy, t: &KtType) -> Result<KtType, NoMemory>
+    requires classes { ClassesEnd (hierarchy_form h.now) }
+    ensures { IfOk result (λ r. IsWithoutNull (hierarchy_form h.now) (type_form t.now) (type_form r)) }
+{
+    if is_below_any(h, t) {
+        Ok(t.copy(alloc)?.without_null())
+    } else {
+        Ok(KtType::any(false))
+    }
 }
 
 /// The one of two types that is above the other; none where neither is.
