@@ -180,13 +180,7 @@ fn is_parameter_below(
 }
 
 /// Whether a shape is a subtype of another, each with `?` or without.
-fn is_shape_subtype(
-    h: &Hierarchy,
-    nullable: bool,
-    a: &TypeShape,
-    may: bool,
-    b: &TypeShape,
-) -> bool
+fn is_shape_subtype(h: &Hierarchy, nullable: bool, a: &TypeShape, may: bool, b: &TypeShape) -> bool
     requires classes { ClassesEnd (hierarchy_form h.now) }
     ensures { IsTrue result ↔ IsBelow (hierarchy_form h.now) (typed nullable (shape_form a.now)) (typed may (shape_form b.now)) }
 {
