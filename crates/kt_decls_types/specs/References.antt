@@ -64,7 +64,8 @@ applied (means.Taking c n) ts =
 -- a function type has at most six parameters
 abbrev pub function_type : Bool → List TypeForm → TypeForm → Option TypeForm
 function_type suspends ts t =
-    if nat_le (length ts) 6 then Some (typed false (of (constructor.Function suspends) (forms_of (ts ++ t ∷ [])))) else None
+    if nat_le (length ts) 6 then Some (typed false (of (constructor.Function suspends) (forms_of (ts ++ t ∷ []))))
+    else None
 
 abbrev mutual
   pub resolved : (List ℕ → Option NamedClass) → List DeclaredTypeParameter → TypeTree → Option TypeForm

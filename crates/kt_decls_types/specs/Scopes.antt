@@ -17,7 +17,8 @@ class_named names name = get (slice_cmp nat_cmp) names.by_name name
 abbrev pub parameter_from : ℕ → List DeclaredTypeParameter → List ℕ → Option NamedParameter
 parameter_from place [] name = None
 parameter_from place (p ∷ ps) name =
-    if pointwise ◌==◌ p.name name then Some (record { row = p.row; place = place }) else parameter_from (place + 1) ps name
+    if pointwise ◌==◌ p.name name then Some (record { row = p.row; place = place })
+    else parameter_from (place + 1) ps name
 
 abbrev pub parameter_named : List DeclaredTypeParameter → List ℕ → Option NamedParameter
 parameter_named = parameter_from 0
