@@ -1,0 +1,4 @@
+pub mod Found
+pub mod RawLaws
+pub mod Standing
+pub mod TextLaws

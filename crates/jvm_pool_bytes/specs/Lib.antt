@@ -1,0 +1,4 @@
+pub mod Names
+pub mod Raws
+pub mod Reading
+pub mod Spelling
