@@ -59,7 +59,7 @@ sought all k (x ∷ rs) i q h only =
         ∙ ap (λ (n : ℕ). seek (k + n) (map (entry_of all) rs) (entry_of all q)) (entry_size all x)
         ∙ later (tail (eqb i k) refl h is)
 
-level_low : (all : List RawEntry) (r : RawEntry) → level all r < 3
+pub level_low : (all : List RawEntry) (r : RawEntry) → level all r < 3
 level_low all (raw.Utf8 t) = omega arith
 level_low all (raw.Int n) = omega arith
 level_low all (raw.Long n) = omega arith

@@ -5,6 +5,8 @@ use Rattle.std.specs.List.{flat_map, AllByRecursion}
 use Rattle.jvm_pool.specs.declared.entries.Entry.{Entry}
 use Rattle.jvm_pool.specs.declared.entries.Entry.TheVariants.{Utf8, Int, Long, Class, Text, Field, Method, InterfaceMethod, NameAndType}
 use Rattle.jvm_pool.specs.Entries.{units}
+use Rattle.jvm_pool.specs.Mentions.{has}
+use Rattle.jvm_pool.specs.Numbering.{AreDifferent}
 use Rattle.jvm_pool.specs.Modified.{modified, IsText}
 use Rattle.jvm_pieces.specs.Pieces.{index}
 use Rattle.jvm_class_types.specs.Constants.{constant_utf8, constant_integer, constant_long, constant_class, constant_string, constant_fieldref, constant_methodref, constant_interface_methodref, constant_name_and_type}
@@ -65,3 +67,10 @@ IsEntry (NameAndType name descriptor) =
 
 abbrev pub AreEntries : List Entry → Type 0
 AreEntries es = AllByRecursion IsEntry es
+
+-- the entries of a pool: they differ, each has its parts among them, and their count fits two bytes
+pub record IsPool (es : List Entry) : Type 0 where
+  pub entries : AreEntries es
+  pub different : AreDifferent es
+  pub whole : (e p : Entry) → has es e ≡ true → has (parts e) p ≡ true → has es p ≡ true
+  pub count : 1 + units es < 2 ^ 16
