@@ -1,0 +1,6 @@
+pub mod Found
+pub mod PoolFound
+pub mod RawLaws
+pub mod Spelled
+pub mod Standing
+pub mod TextLaws
