@@ -1,5 +1,5 @@
 -- Arguments in their places.
-use Rattle.std.proofs.Common.{ℕ, suc, zero, ◌≡◌, refl, ap, List, [], ◌∷◌, map, Some, None, ◌∙◌}
+use Rattle.std.proofs.Common.{ℕ, suc, zero, ◌≡◌, refl, ap, List, [], ◌∷◌, map, Some, None}
 use Rattle.std.specs.Prelude.{slice_get, false}
 use Rattle.kt_types_tree.specs.declared.types.KtType.{KtType}
 use Rattle.kt_types_tree.specs.Types.{ShapeForm, TypeForms, typed, form_then, forms_of, type_form, argument_at, substituted, substituted_all}

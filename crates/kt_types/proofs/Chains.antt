@@ -1,16 +1,15 @@
 -- No more steps from type parameters to bounds are needed than there are bounds.
-use Rattle.std.proofs.Common.{ℕ, suc, zero, Bool, true, false, ◌≡◌, refl, subst, ap, sym, ◌∙◌, ◌⊎◌, inl, inr, List, [], ◌∷◌, length, ◌<◌, ◌≤◌, ◌+◌, Some, None, arith}
+use Rattle.std.proofs.Common.{ℕ, suc, zero, Bool, true, false, ◌≡◌, refl, subst, sym, inl, inr, List, [], ◌∷◌, length, ◌<◌, ◌≤◌, Some, None, arith}
 use Rattle.std.specs.Prelude.{◌||◌, slice_get, IsTrue, ◌↔◌}
 use Rattle.std.specs.List.{list_any, IsDistinct, AllByRecursion}
 use Rattle.std.proofs.Math.Dec.{eqb}
-use Rattle.std.proofs.lemmas.Bool.{eqb-true}
 use Rattle.std.proofs.lemmas.Bool.Decides.{eqb_tells}
 use Rattle.std.proofs.lemmas.Option.{slice_get_within}
 use Rattle.std.proofs.lemmas.Map.Steps.{length-le_from_distinct_below}
 use Rattle.kt_types_tree.specs.declared.types.TypeConstructor.{TypeConstructor}
-use Rattle.kt_types_tree.specs.Types.{TypeForm, ShapeForm, TypeForms, typed, nothing, any, parameter, of}
+use Rattle.kt_types_tree.specs.Types.{ShapeForm, TypeForms, typed, nothing, any, parameter, of}
 use Rattle.kt_types_tree.specs.Hierarchy.{HierarchyForm}
-use Rattle.kt_types_order.specs.Climbing.{IsUnder, Allows, u_nothing, u_same, u_any, u_any_nullable, u_declared, u_bounded}
+use Rattle.kt_types_order.specs.Climbing.{IsUnder, Allows, u_same, u_any, u_any_nullable, u_bounded}
 use Rattle.kt_types_order.proofs.Rules.{weaker, allows_or, allows_both, allows_left, allows_same}
 use Rattle.kt_types.specs.Bounds.{IsAtOnce, IsUnderIn}
 

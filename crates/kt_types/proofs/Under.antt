@@ -1,11 +1,11 @@
 -- What is above each kind of type.
-use Rattle.std.proofs.Common.{ℕ, suc, zero, Bool, true, false, ◌≡◌, refl, subst, ap, sym, ◌∙◌, ◌⊎◌, inl, inr, Some, None}
-use Rattle.std.specs.Prelude.{◌||◌, slice_get, IsTrue, ◌↔◌}
+use Rattle.std.proofs.Common.{ℕ, Bool, false, ◌≡◌, refl, subst}
+use Rattle.std.specs.Prelude.{IsTrue, ◌↔◌}
 use Rattle.kt_types_tree.specs.declared.types.TypeConstructor.{TypeConstructor}
 use Rattle.kt_types_tree.specs.declared.types.TypeConstructor.TheVariants.{Class}
-use Rattle.kt_types_tree.specs.Types.{ShapeForm, TypeForms, typed, nothing, any, parameter, of, substituted_all}
-use Rattle.kt_types_tree.specs.Hierarchy.{SuperForm, HierarchyForm, HasSuper}
-use Rattle.kt_types_order.specs.Climbing.{IsNoClass, IsUnder, Allows, Climbs, here, up, u_nothing, u_same, u_any, u_any_nullable, u_declared, u_bounded}
+use Rattle.kt_types_tree.specs.Types.{ShapeForm, TypeForms, nothing, any, parameter, of, substituted_all}
+use Rattle.kt_types_tree.specs.Hierarchy.{HierarchyForm}
+use Rattle.kt_types_order.specs.Climbing.{IsNoClass, IsUnder, Allows, Climbs, here, up, u_nothing, u_same, u_declared}
 use Rattle.kt_types_order.proofs.Rules.{grows, above_any}
 
 module _ (h : HierarchyForm) where

@@ -1,6 +1,6 @@
 -- Subtyping with at most so many steps from a type parameter to its bound.
-use Rattle.std.specs.Prelude.{ℕ, zero, suc, Bool, true, false, ◌||◌, Some, ◌≡◌, ◌⊎◌, slice_get}
-use Rattle.kt_types_tree.specs.Types.{ShapeForm, TypeForms, typed, nothing, any, parameter, of}
+use Rattle.std.specs.Prelude.{ℕ, zero, suc, Bool, true, ◌||◌, Some, ◌≡◌, ◌⊎◌, slice_get}
+use Rattle.kt_types_tree.specs.Types.{ShapeForm, typed, nothing, any, parameter, of}
 use Rattle.kt_types_tree.specs.Hierarchy.{HierarchyForm}
 use Rattle.kt_types_order.specs.Climbing.{Allows, IsUnder}
 

@@ -1,7 +1,7 @@
 use Rattle.std.proofs.Common.{sym, arith, ◌-◌}
 use Rattle.kt_types_tree.specs.Hierarchy.{hierarchy_form}
 use Rattle.kt_types_tree.proofs.Parts.{yes, no, not_both}
-use Rattle.kt_types_tree.proofs.Seen.{seen_nothing, seen_any, seen_parameter, seen_of, seen_bound, seen_no_bound}
+use Rattle.kt_types_tree.proofs.Seen.{seen_nothing, seen_any, seen_of, seen_bound, seen_no_bound}
 use Rattle.kt_types.proofs.Under.{nothing_under, any_under, any_not_under}
 use Rattle.kt_types.proofs.Chains.{by_none, by_any, by_of, at_once, no_steps, no_bound, one_step}
 use Rattle.kt_types.proofs.subtyping.+below.Goals as goal
