@@ -35,7 +35,10 @@ abbrev first : DeclarationTree
 first = class (record {
   at = record { line = 1; column = 1 };
   modifiers = record { is_open = true; is_abstract = false; is_data = false };
-  name = codes "A"; type_parameters = []; parameters = []; supertypes = [];
+  name = codes "A";
+  type_parameters = [];
+  parameters = [];
+  supertypes = [];
   members = method (f_of (record { line = 1; column = 16 }) plain) ∷ [];
 })
 
@@ -47,7 +50,9 @@ abbrev second : DeclarationTree
 second = class (record {
   at = record { line = 2; column = 1 };
   modifiers = record { is_open = false; is_abstract = false; is_data = false };
-  name = codes "B"; type_parameters = []; parameters = [];
+  name = codes "B";
+  type_parameters = [];
+  parameters = [];
   supertypes = record { parent = named (codes "A") types_end; arguments = Some (record { at = record { line = 2; column = 12 }; values = [] }) } ∷ [];
   members = method g ∷ [];
 })

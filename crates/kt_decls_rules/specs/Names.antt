@@ -19,11 +19,11 @@ pub data Taken : Type 0 where
 
 -- functions of one name differ in the number of their parameters; types are apart from the rest
 abbrev pub clash : Taken → Taken → Bool
-clash (a_type x) (a_type y) = is_name x y
-clash (a_function x n) (a_function y m) = is_name x y && n == m
-clash (a_function x n) (a_value y) = is_name x y
-clash (a_value x) (a_function y m) = is_name x y
-clash (a_value x) (a_value y) = is_name x y
+clash (a_type x) (a_type y) = is_name y x
+clash (a_function x n) (a_function y m) = is_name y x && m == n
+clash (a_function x n) (a_value y) = is_name y x
+clash (a_value x) (a_function y m) = is_name y x
+clash (a_value x) (a_value y) = is_name y x
 clash _ _ = false
 
 abbrev pub clash_with_any : List Taken → Taken → Bool
@@ -56,10 +56,14 @@ taken_by_kind Var x = a_value x ∷ []
 abbrev pub taken_by_parameter : ConstructorParameterTree → List Taken
 taken_by_parameter p = taken_by_kind p.kind p.name
 
+-- each is free beside what was taken earlier and what stands before it
+abbrev pub are_apart : List Taken → List Taken → Bool
+are_apart earlier [] = true
+are_apart earlier (t ∷ ts) = not (clash_with_any earlier t) && are_apart (earlier ++ t ∷ []) ts
+
 -- names that differ
 abbrev pub are_distinct : List (List ℕ) → Bool
-are_distinct [] = true
-are_distinct (x ∷ xs) = not (list_any (is_name x) xs) && are_distinct xs
+are_distinct xs = are_apart [] (map a_value xs)
 
 -- the throwables, in the order of their rows
 unfoldable pub throwable_names : List (List ℕ)
