@@ -1,11 +1,11 @@
 -- A file's headers are well formed or refused at one place, and not both.
-use Rattle.std.specs.Prelude.{ℕ, zero, suc, List, ◌<◌, ◌≤◌, ◌+◌, ◌≡◌, ◌⊎◌, Option, Some, None, slice_get, length, refl}
-use Rattle.std.proofs.Common.{rules, arith, inl, inr, ap, subst, sym, ◌∙◌}
+use Rattle.std.specs.Prelude.{ℕ, zero, suc, List, ◌<◌, ◌≡◌, Option, Some, slice_get, length, refl}
+use Rattle.std.proofs.Common.{arith, inl, inr, ap, subst, sym, ◌∙◌}
 use Rattle.std.proofs.lemmas.Bool.{cases_order}
 use Rattle.std.proofs.lemmas.Option.{slice_get_within}
 use Rattle.kt_base.specs.declared.refusals.Pos.{Pos}
 use Rattle.kt_tree.specs.Declarations.{DeclarationTree}
-use Rattle.kt_decls_rules.specs.Headers.{Header, headers, place, IsFine, AreWellFormed, AreRefusedAt, AreJudgedOnce, IsJudgedOnce}
+use Rattle.kt_decls_rules.specs.Headers.{Header, headers, place, IsFine, AreWellFormed, AreRefusedAt, IsJudgedOnce}
 
 both : (ds : List DeclarationTree) (p : Pos) → AreWellFormed ds → AreRefusedAt ds p → ⊥
 both ds p fine r = r.fails (fine r.number r.header r.stands)

@@ -1,19 +1,18 @@
 -- Worked rows, computed.
-use Rattle.std.specs.Prelude.{ℕ, Bool, true, false, List, [], ◌∷◌, ◌≡◌, Option, Some, None, map, codes, refl, length}
+use Rattle.std.specs.Prelude.{ℕ, true, false, List, [], ◌∷◌, ◌≡◌, Option, Some, map, codes, refl}
 use Rattle.kt_base.specs.declared.refusals.Pos.{Pos}
 use Rattle.kt_tree.specs.declared.declarations.FunctionModifiers.{FunctionModifiers}
-use Rattle.kt_tree.specs.declared.declarations.ClassModifiers.{ClassModifiers}
-use Rattle.kt_tree.specs.Types.{TypeTree, TypeTrees, named, nullable, types_end, type_then}
+use Rattle.kt_tree.specs.Types.{TypeTree, named, types_end}
 use Rattle.kt_tree.specs.Bodies.{block, statements_end}
-use Rattle.kt_tree.specs.Declarations.{DeclarationTree, function, class, FunctionTree, ClassTree, MemberTree, method, FunctionBodyTree, braces}
+use Rattle.kt_tree.specs.Declarations.{DeclarationTree, class, FunctionTree, method, FunctionBodyTree, braces}
 use Rattle.kt_types_tree.specs.declared.types.TypeConstructor.TheVariants as constructor
-use Rattle.kt_types_tree.specs.Types.{TypeForm, typed, of, forms_end}
-use Rattle.kt_decls_types.specs.Names.{all_types, built_in_named}
-use Rattle.kt_decls_rules.specs.Names.{throwable_names, other_names, is_reserved}
-use Rattle.kt_decls_rules.specs.Tables.{throwable_parents, has_within, meant, hierarchy_of, supers_meant}
-use Rattle.kt_decls_rules.specs.Members.{Member, inherited_within, properties_within, inherited_properties}
+use Rattle.kt_types_tree.specs.Types.{typed, of, forms_end}
+use Rattle.kt_types_builtins.specs.Types.{types, type_of_name}
+use Rattle.kt_types_builtins.specs.Throwables.{throwables}
+use Rattle.kt_decls_rules.specs.Tables.{meant}
+use Rattle.kt_decls_rules.specs.Members.{inherited_within}
 use Rattle.kt_decls_rules.specs.ClassRules.{above, row_behind}
-use Rattle.kt_decls_rules.specs.Headers.{Header, headers, place}
+use Rattle.kt_decls_rules.specs.Headers.{headers, place}
 
 at : ℕ → ℕ → Pos
 at l c = record { line = l; column = c }
@@ -35,7 +34,10 @@ abbrev first : DeclarationTree
 first = class (record {
   at = record { line = 1; column = 1 };
   modifiers = record { is_open = true; is_abstract = false; is_data = false };
-  name = codes "A"; type_parameters = []; parameters = []; supertypes = [];
+  name = codes "A";
+  type_parameters = [];
+  parameters = [];
+  supertypes = [];
   members = method (f_of (record { line = 1; column = 16 }) plain) ∷ [];
 })
 
@@ -47,7 +49,9 @@ abbrev second : DeclarationTree
 second = class (record {
   at = record { line = 2; column = 1 };
   modifiers = record { is_open = false; is_abstract = false; is_data = false };
-  name = codes "B"; type_parameters = []; parameters = [];
+  name = codes "B";
+  type_parameters = [];
+  parameters = [];
   supertypes = record { parent = named (codes "A") types_end; arguments = Some (record { at = record { line = 2; column = 12 }; values = [] }) } ∷ [];
   members = method g ∷ [];
 })
@@ -56,16 +60,16 @@ abbrev file : List DeclarationTree
 file = first ∷ second ∷ []
 
 int_is_meant : meant file [] int ≡ Some (typed false (of constructor.Int forms_end))
-unfolding all_types built_in_named throwable_names
+unfolding types type_of_name throwables
 int_is_meant = refl
 
 row_of_second : row_behind (first ∷ []) ≡ 13
-unfolding throwable_names
+unfolding throwables
 row_of_second = refl
 
 -- what B has from above isn't open
 not_open : map (λ m. m.is_open) (above file 13 g) ≡ false ∷ []
-unfolding all_types built_in_named throwable_names throwable_parents inherited_within
+unfolding types type_of_name throwables inherited_within
 not_open = refl
 
 -- the third header that is judged behind two classes and a function is at 2:17

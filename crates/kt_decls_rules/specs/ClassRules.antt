@@ -1,26 +1,27 @@
 -- When the headers of classes, interfaces, enums and their members are well formed: one named fact for each rule.
-use Rattle.std.specs.Prelude.{ℕ, zero, suc, Bool, true, false, List, [], ◌∷◌, ◌++◌, ◌+◌, ◌<◌, ◌==◌, ◌&&◌, ◌||◌, ◌≡◌, ◌⊎◌, Option, Some, None, length, map, codes, slice_get, not, nat_le}
+use Rattle.std.specs.Prelude.{ℕ, Bool, true, false, List, [], ◌∷◌, ◌++◌, ◌+◌, ◌&&◌, ◌||◌, ◌≡◌, Option, Some, None, length, map, slice_get, not, nat_le}
 use Rattle.std.specs.List.{flat_map, list_any, list_all, filter}
 use Rattle.kt_tree.specs.declared.declarations.ConstructorParameterKind.{ConstructorParameterKind}
 use Rattle.kt_tree.specs.declared.declarations.ConstructorParameterKind.TheVariants.{Plain, Val, Var}
 use Rattle.kt_tree.specs.declared.declarations.EnumEntry.{EnumEntry}
 use Rattle.kt_tree.specs.Types.{TypeTree}
-use Rattle.kt_tree.specs.Declarations.{DeclarationTree, function, class, interface, enum, constant, FunctionTree, ClassTree, InterfaceTree, ConstructorParameterTree, PropertyTree, SupertypeTree, SuperArgumentsTree, MemberTree, method, property}
+use Rattle.kt_tree.specs.Declarations.{DeclarationTree, class, interface, FunctionTree, ClassTree, InterfaceTree, ConstructorParameterTree, PropertyTree, SupertypeTree, SuperArgumentsTree}
 use Rattle.kt_types_tree.specs.Types.{TypeForm}
 use Rattle.kt_types_tree.specs.Hierarchy.{SuperForm, HierarchyForm}
 use Rattle.kt_types_order.specs.Below.{IsBelow}
 use Rattle.kt_types_order.specs.Graph.{Reaches, class_graph}
 use Rattle.kt_typed.specs.declared.headers.DeclaredTypeParameter.{DeclaredTypeParameter}
 use Rattle.kt_decls_rules.specs.Names.{Taken, is_name, are_free, are_distinct, taken_by_function}
-use Rattle.kt_decls_rules.specs.Tables.{Placed, Row, rows, scope_of, meant, hierarchy_of, super_meant, declares, class_entry}
-use Rattle.kt_decls_rules.specs.Members.{Signature, Member, signature_of, members_of_any, inherited, inherited_properties, constructor_properties, functions_of, is_some_body, first_descriptor, own_descriptor}
+use Rattle.kt_decls_rules.specs.Tables.{Placed, Row, rows, meant, hierarchy_of, super_meant, declares, class_entry}
+use Rattle.kt_decls_rules.specs.Members.{Signature, Member, signature_of, members_of_any, inherited, inherited_properties, constructor_properties, functions_of, is_some_body, first_descriptor}
 use Rattle.kt_decls_rules.specs.Erasure.{Descriptor}
-use Rattle.kt_decls_rules.specs.Names.{throwable_names}
-use Rattle.kt_decls_rules.specs.Rules.{Ends, IsGrounded, AreMeant, types_of_function, is_printable, is_equatable}
+use Rattle.kt_types_builtins.specs.Throwables.{throwables}
+use Rattle.kt_types.specs.Kinds.{printable, equatable}
+use Rattle.kt_decls_rules.specs.Rules.{Ends, IsGrounded, AreMeant, types_of_function}
 
 -- the row of a declaration behind the ones before it
 abbrev pub row_behind : List DeclarationTree → ℕ
-row_behind before = length throwable_names + length (flat_map class_entry before)
+row_behind before = length throwables + length (flat_map class_entry before)
 
 -- Supertypes. A class is extended with parentheses, an interface without.
 
@@ -170,7 +171,7 @@ is_property Var = true
 
 abbrev pub IsMeantText : HierarchyForm → Option TypeForm → Type 0
 IsMeantText h None = Unit {0}
-IsMeantText h (Some t) = (is_printable h t && is_equatable h t) ≡ true
+IsMeantText h (Some t) = (printable h t && equatable h t) ≡ true
 
 abbrev pub HaveText : List DeclarationTree → List DeclaredTypeParameter → List ConstructorParameterTree → Type 0
 HaveText ds scope [] = Unit {0}

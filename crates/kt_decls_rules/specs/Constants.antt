@@ -1,6 +1,5 @@
 -- The literals of constants.
-use Rattle.std.specs.Prelude.{ℕ, Bool, true, false, List, [], ◌∷◌, ◌||◌, nat_le, Option, Some, None, if◌then◌else◌, ◌≡◌}
-use Rattle.kt_tree.specs.declared.tokens.Number.{Number}
+use Rattle.std.specs.Prelude.{ℕ, Bool, true, false, ◌||◌, nat_le, Option, Some, None, if◌then◌else◌, ◌≡◌}
 use Rattle.kt_tree.specs.declared.bodies.Literal.{Literal}
 use Rattle.kt_tree.specs.declared.bodies.Literal.TheVariants as literal
 use Rattle.kt_tree.specs.declared.declarations.ConstantValue.{ConstantValue}

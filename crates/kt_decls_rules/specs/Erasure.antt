@@ -1,8 +1,8 @@
 -- What is left of a type in a descriptor of a class file.
-use Rattle.std.specs.Prelude.{ℕ, zero, suc, Bool, true, false, List, [], ◌∷◌, ◌+◌, Option, Some, None, length, map, slice_get, if◌then◌else◌}
+use Rattle.std.specs.Prelude.{ℕ, zero, suc, Bool, true, false, List, ◌+◌, Option, Some, None, length, map, slice_get, if◌then◌else◌}
 use Rattle.kt_types_tree.specs.declared.types.TypeConstructor.{TypeConstructor}
 use Rattle.kt_types_tree.specs.declared.types.TypeConstructor.TheVariants as constructor
-use Rattle.kt_types_tree.specs.Types.{TypeForm, ShapeForm, TypeForms, typed, nothing, any, parameter, of, forms_end, form_then}
+use Rattle.kt_types_tree.specs.Types.{TypeForm, TypeForms, typed, nothing, any, parameter, of, forms_end, form_then}
 
 -- A primitive type, `java/lang/Object`, the one class of all types with this constructor (of a primitive type its box),
 -- or the interface of functions with so many parameters.

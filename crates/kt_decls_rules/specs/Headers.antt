@@ -1,9 +1,9 @@
 -- The headers of a file in text order, when all are well formed, and which is the first that isn't.
-use Rattle.std.specs.Prelude.{ℕ, List, [], ◌∷◌, ◌++◌, ◌<◌, ◌≡◌, Option, Some, None, map, slice_get}
+use Rattle.std.specs.Prelude.{ℕ, List, [], ◌∷◌, ◌++◌, ◌<◌, ◌≡◌, Some, map, slice_get}
 use Rattle.std.specs.List.{flat_map}
 use Rattle.kt_base.specs.declared.refusals.Pos.{Pos}
 use Rattle.kt_tree.specs.declared.declarations.EnumEntry.{EnumEntry}
-use Rattle.kt_tree.specs.Declarations.{DeclarationTree, function, class, interface, enum, constant, FunctionTree, ClassTree, MemberTree, method, property}
+use Rattle.kt_tree.specs.Declarations.{DeclarationTree, function, class, interface, enum, constant, MemberTree, method, property}
 use Rattle.kt_decls_rules.specs.Names.{Taken, taken_by_member, taken_by_parameter}
 use Rattle.kt_decls_rules.specs.Tables.{scope_of}
 use Rattle.kt_decls_rules.specs.Rules.{IsFineDeclaration, IsFineFunction, IsFineConstant}

@@ -1,16 +1,16 @@
 -- The functions and properties that a class has from above.
-use Rattle.std.specs.Prelude.{ℕ, zero, suc, Bool, true, false, List, [], ◌∷◌, ◌++◌, ◌+◌, ◌==◌, ◌&&◌, ◌||◌, ◌≡◌, Option, Some, None, option_map, length, map, find, codes, slice_get, if◌then◌else◌, not}
-use Rattle.std.specs.List.{flat_map, list_any, filter_map}
+use Rattle.std.specs.Prelude.{ℕ, zero, suc, Bool, true, false, List, [], ◌∷◌, ◌++◌, ◌==◌, ◌&&◌, ◌||◌, Option, Some, None, option_map, length, map, find, codes, slice_get, if◌then◌else◌}
+use Rattle.std.specs.List.{flat_map}
 use Rattle.kt_tree.specs.Types.{TypeTree}
-use Rattle.kt_tree.specs.Declarations.{DeclarationTree, function, class, interface, enum, constant, FunctionTree, ClassTree, InterfaceTree, ConstructorParameterTree, PropertyTree, MemberTree, method, property, FunctionBodyTree}
+use Rattle.kt_tree.specs.Declarations.{DeclarationTree, function, class, interface, enum, constant, FunctionTree, ConstructorParameterTree, MemberTree, method, property, FunctionBodyTree}
 use Rattle.kt_types_tree.specs.declared.types.TypeConstructor.TheVariants as constructor
-use Rattle.kt_types_tree.specs.Types.{TypeForm, typed, any, of, forms_of, forms_end, substituted}
-use Rattle.kt_types_tree.specs.Hierarchy.{SuperForm, HierarchyForm}
+use Rattle.kt_types_tree.specs.Types.{TypeForm, typed, any, of, forms_end, substituted}
+use Rattle.kt_types_tree.specs.Hierarchy.{SuperForm}
 use Rattle.kt_typed.specs.declared.headers.DeclaredTypeParameter.{DeclaredTypeParameter}
 use Rattle.kt_decls_types.specs.References.{then_on}
 use Rattle.kt_decls_rules.specs.Names.{Taken, a_value, is_name, taken_by_parameter}
-use Rattle.kt_decls_rules.specs.Tables.{Placed, Row, rows, supers_at, scope_of, meant, is_function, is_method, hierarchy_of}
-use Rattle.kt_decls_rules.specs.Erasure.{Descriptor, descriptor_of, reference, primitive, object}
+use Rattle.kt_decls_rules.specs.Tables.{Placed, Row, rows, supers_at, scope_of, meant, is_function, hierarchy_of}
+use Rattle.kt_decls_rules.specs.Erasure.{Descriptor, descriptor_of}
 
 pub record Signature : Type 0 where
   pub parameters : List TypeForm

@@ -1,11 +1,13 @@
 -- Which names a file's declarations take, and which may not stand beside one another.
-use Rattle.std.specs.Prelude.{ℕ, Bool, true, false, List, [], ◌∷◌, ◌++◌, ◌==◌, ◌&&◌, ◌||◌, ◌≡◌, Option, Some, None, length, map, codes, not}
-use Rattle.std.specs.List.{flat_map, list_any}
+use Rattle.std.specs.Prelude.{ℕ, Bool, true, false, List, [], ◌∷◌, ◌==◌, ◌&&◌, ◌||◌, length, map, codes, is_some, not, if◌then◌else◌}
+use Rattle.std.specs.List.{list_any}
 use Rattle.std.specs.Cmp.Lexicographic.{pointwise}
 use Rattle.kt_tree.specs.declared.declarations.ConstructorParameterKind.{ConstructorParameterKind}
 use Rattle.kt_tree.specs.declared.declarations.ConstructorParameterKind.TheVariants.{Plain, Val, Var}
-use Rattle.kt_tree.specs.Declarations.{DeclarationTree, function, class, interface, enum, constant, FunctionTree, ClassTree, ConstructorParameterTree, MemberTree, method, property}
-use Rattle.kt_decls_types.specs.Names.{spelling, all_types}
+use Rattle.kt_tree.specs.Declarations.{DeclarationTree, function, class, interface, enum, constant, FunctionTree, ConstructorParameterTree, MemberTree, method, property}
+use Rattle.kt_types_builtins.specs.Types.{type_of_name}
+use Rattle.kt_types_builtins.specs.Throwables.{throwable_of_name}
+use Rattle.kt_types_builtins.specs.Functions.{function_of_name}
 
 abbrev pub is_name : List ℕ → List ℕ → Bool
 is_name = pointwise ◌==◌
@@ -19,11 +21,11 @@ pub data Taken : Type 0 where
 
 -- functions of one name differ in the number of their parameters; types are apart from the rest
 abbrev pub clash : Taken → Taken → Bool
-clash (a_type x) (a_type y) = is_name x y
-clash (a_function x n) (a_function y m) = is_name x y && n == m
-clash (a_function x n) (a_value y) = is_name x y
-clash (a_value x) (a_function y m) = is_name x y
-clash (a_value x) (a_value y) = is_name x y
+clash (a_type x) (a_type y) = is_name y x
+clash (a_function x n) (a_function y m) = is_name y x && m == n
+clash (a_function x n) (a_value y) = is_name y x
+clash (a_value x) (a_function y m) = is_name y x
+clash (a_value x) (a_value y) = is_name y x
 clash _ _ = false
 
 abbrev pub clash_with_any : List Taken → Taken → Bool
@@ -56,34 +58,25 @@ taken_by_kind Var x = a_value x ∷ []
 abbrev pub taken_by_parameter : ConstructorParameterTree → List Taken
 taken_by_parameter p = taken_by_kind p.kind p.name
 
+-- what clashes with one more, or with what was taken before
+abbrev pub and_taken : (Taken → Bool) → Taken → Taken → Bool
+and_taken taken t u = clash u t || taken u
+
+-- each is free beside what was taken before and what stands before it
+abbrev pub are_apart : (Taken → Bool) → List Taken → Bool
+are_apart taken [] = true
+are_apart taken (t ∷ ts) = if taken t then false else are_apart (and_taken taken t) ts
+
+-- nothing is taken
+abbrev pub none_taken : Taken → Bool
+none_taken t = false
+
 -- names that differ
 abbrev pub are_distinct : List (List ℕ) → Bool
-are_distinct [] = true
-are_distinct (x ∷ xs) = not (list_any (is_name x) xs) && are_distinct xs
+are_distinct xs = are_apart none_taken (map a_value xs)
 
--- the throwables, in the order of their rows
-unfoldable pub throwable_names : List (List ℕ)
-throwable_names =
-    codes "Throwable"
-    ∷ codes "Exception"
-    ∷ codes "RuntimeException"
-    ∷ codes "IllegalStateException"
-    ∷ codes "IllegalArgumentException"
-    ∷ codes "ArithmeticException"
-    ∷ codes "NullPointerException"
-    ∷ codes "ClassCastException"
-    ∷ codes "NegativeArraySizeException"
-    ∷ codes "IndexOutOfBoundsException"
-    ∷ codes "ArrayIndexOutOfBoundsException"
-    ∷ codes "StringIndexOutOfBoundsException"
-    ∷ []
-
--- the functions that are called without a receiver, and the class that has the functions of a file
-unfoldable pub other_names : List (List ℕ)
-other_names =
-    codes "println" ∷ codes "launch" ∷ codes "suspendCoroutine" ∷ codes "arrayOfNulls" ∷ codes "MainKt" ∷ []
-
--- no declaration at top level takes one of these
-unfoldable pub is_reserved : List ℕ → Bool
+-- no declaration at top level takes the name of a built-in type, of a throwable, of a built-in function that is called
+-- without a receiver, or of the class that has the functions of a file
+abbrev pub is_reserved : List ℕ → Bool
 is_reserved x =
-    list_any (is_name x) (map spelling all_types) || list_any (is_name x) throwable_names || list_any (is_name x) other_names
+    is_some (type_of_name x) || is_some (throwable_of_name x) || is_some (function_of_name x) || is_name x (codes "MainKt")

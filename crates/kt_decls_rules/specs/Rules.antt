@@ -1,24 +1,18 @@
 -- When a header is well formed: one named fact for each rule.
-use Rattle.std.specs.Prelude.{ℕ, zero, suc, Bool, true, false, List, [], ◌∷◌, ◌++◌, ◌+◌, ◌<◌, ◌==◌, ◌&&◌, ◌||◌, ◌≡◌, ◌⊎◌, ◌↔◌, Option, Some, None, length, map, codes, slice_get, IsTrue, IsSome, not, is_some, nat_lt, nat_le, if◌then◌else◌}
-use Rattle.std.specs.List.{flat_map, list_any, list_all}
-use Rattle.kt_tree.specs.declared.declarations.ConstructorParameterKind.{ConstructorParameterKind}
-use Rattle.kt_tree.specs.declared.declarations.ConstructorParameterKind.TheVariants.{Plain, Val, Var}
-use Rattle.kt_tree.specs.declared.declarations.EnumEntry.{EnumEntry}
+use Rattle.std.specs.Prelude.{ℕ, Bool, true, false, List, [], ◌∷◌, ◌++◌, ◌+◌, ◌==◌, ◌&&◌, ◌≡◌, ◌⊎◌, Option, Some, None, length, map, codes, slice_get, nat_lt, if◌then◌else◌}
+use Rattle.std.specs.List.{flat_map}
 use Rattle.kt_tree.specs.Types.{TypeTree}
-use Rattle.kt_tree.specs.Declarations.{DeclarationTree, function, class, interface, enum, constant, FunctionTree, ClassTree, InterfaceTree, ConstantTree, ConstructorParameterTree, PropertyTree, SupertypeTree, SuperArgumentsTree, MemberTree, method, property, TypeParameterTree}
-use Rattle.kt_types_tree.specs.declared.hierarchy.ClassKind.{ClassKind}
-use Rattle.kt_types_tree.specs.declared.hierarchy.ClassKind.TheVariants as kind
+use Rattle.kt_tree.specs.Declarations.{DeclarationTree, function, class, interface, enum, constant, FunctionTree, ConstantTree, TypeParameterTree}
 use Rattle.kt_types_tree.specs.declared.types.TypeConstructor.{TypeConstructor}
 use Rattle.kt_types_tree.specs.declared.types.TypeConstructor.TheVariants as constructor
 use Rattle.kt_types_tree.specs.Types.{TypeForm, ShapeForm, TypeForms, typed, nothing, any, parameter, of, forms_end, form_then, substituted}
-use Rattle.kt_types_tree.specs.Hierarchy.{SuperForm, HeaderForm, HierarchyForm}
+use Rattle.kt_types_tree.specs.Hierarchy.{HeaderForm, HierarchyForm}
 use Rattle.kt_types_order.specs.Below.{IsBelow}
 use Rattle.kt_types_order.specs.Graph.{Reaches, class_graph, bound_graph, ClassesEnd, BoundsEnd}
 use Rattle.kt_typed.specs.declared.headers.DeclaredTypeParameter.{DeclaredTypeParameter}
-use Rattle.kt_decls_rules.specs.Names.{Taken, a_value, is_name, are_free, are_distinct, is_reserved, taken_by, taken_by_function, taken_by_member, taken_by_parameter}
-use Rattle.kt_decls_rules.specs.Tables.{Placed, Row, rows, scope_of, meant, hierarchy_of, row_count, type_parameters_of, supertypes_of, declares, super_meant}
-use Rattle.kt_decls_rules.specs.Members.{Signature, Member, unit_type, result_meant, signature_of, members_of_any, inherited, inherited_properties, constructor_properties, functions_of, is_some_body}
-use Rattle.kt_decls_rules.specs.Erasure.{Descriptor}
+use Rattle.kt_decls_rules.specs.Names.{is_name, are_free, are_distinct, is_reserved, taken_by}
+use Rattle.kt_decls_rules.specs.Tables.{scope_of, meant, hierarchy_of, row_count, type_parameters_of}
+use Rattle.kt_decls_rules.specs.Members.{unit_type, result_meant}
 use Rattle.kt_decls_rules.specs.Constants.{IsConstantOf}
 
 -- No class is above itself, and no bound leads back to itself. Types are compared only where this holds.
@@ -139,40 +133,3 @@ IsConstantWritten ds (Some t) c = IsConstantMeant (meant ds [] t) c
 -- A constant's literal is of a basic type, and of the written one.
 abbrev pub IsFineConstant : List DeclarationTree → ConstantTree → Type 0
 IsFineConstant ds c = IsConstantWritten ds c.annotation c
-
--- an enum and a data class always are
-abbrev pub kind_has_text : Bool → ClassKind → Bool
-kind_has_text declared kind.Class = declared
-kind_has_text declared kind.DataClass = true
-kind_has_text declared kind.Enum = true
-kind_has_text declared kind.Interface = declared
-
-abbrev pub class_has_text : (HeaderForm → Bool) → Option HeaderForm → Bool
-class_has_text declares None = false
-class_has_text declares (Some c) = kind_has_text (declares c) c.kind
-
--- Which types are printable, and which equatable. A type parameter isn't by its bound.
-abbrev pub has_text : HierarchyForm → (HeaderForm → Bool) → TypeConstructor → Bool
-has_text h declares constructor.Int = true
-has_text h declares constructor.Long = true
-has_text h declares constructor.Boolean = true
-has_text h declares constructor.Char = true
-has_text h declares constructor.String = true
-has_text h declares constructor.Unit = true
-has_text h declares constructor.IntArray = false
-has_text h declares constructor.Array = false
-has_text h declares constructor.Continuation = false
-has_text h declares (constructor.Class row) = class_has_text declares (slice_get h.classes row)
-has_text h declares (constructor.Function s) = false
-
-abbrev pub is_printable : HierarchyForm → TypeForm → Bool
-is_printable h (typed n nothing) = n
-is_printable h (typed n any) = false
-is_printable h (typed n (parameter row place)) = false
-is_printable h (typed n (of c ts)) = has_text h (λ c. c.has_to_string) c
-
-abbrev pub is_equatable : HierarchyForm → TypeForm → Bool
-is_equatable h (typed n nothing) = false
-is_equatable h (typed n any) = false
-is_equatable h (typed n (parameter row place)) = false
-is_equatable h (typed n (of c ts)) = has_text h (λ c. c.has_equals) c

@@ -1,27 +1,28 @@
 -- The classes, the type parameters and the hierarchy of a file.
-use Rattle.std.specs.Prelude.{ℕ, zero, suc, Bool, true, false, List, [], ◌∷◌, ◌++◌, ◌+◌, ◌==◌, ◌&&◌, ◌||◌, ◌≡◌, Option, Some, None, length, map, take, codes, slice_get, if◌then◌else◌}
+use Rattle.std.specs.Prelude.{ℕ, zero, suc, Bool, true, false, List, [], ◌∷◌, ◌++◌, ◌+◌, ◌==◌, ◌&&◌, ◌||◌, Option, Some, None, length, map, codes, slice_get, if◌then◌else◌}
 use Rattle.std.specs.List.{flat_map, list_any, filter_map}
-use Rattle.std.specs.Cmp.Lexicographic.{pointwise}
-use Rattle.kt_tree.specs.declared.declarations.ClassModifiers.{ClassModifiers}
-use Rattle.kt_tree.specs.Types.{TypeTree, named}
-use Rattle.kt_tree.specs.Declarations.{DeclarationTree, function, class, interface, enum, constant, FunctionTree, ClassTree, InterfaceTree, TypeParameterTree, SupertypeTree, MemberTree, method, property}
+use Rattle.kt_tree.specs.Types.{TypeTree}
+use Rattle.kt_tree.specs.Declarations.{DeclarationTree, function, class, interface, enum, constant, FunctionTree, TypeParameterTree, MemberTree, method, property}
 use Rattle.kt_types_tree.specs.declared.hierarchy.ClassKind.{ClassKind}
 use Rattle.kt_types_tree.specs.declared.hierarchy.ClassKind.TheVariants as kind
 use Rattle.kt_types_tree.specs.declared.types.TypeConstructor.TheVariants as constructor
-use Rattle.kt_types_tree.specs.Types.{TypeForm, typed, any, of, nothing, parameter, forms_end}
+use Rattle.kt_types_tree.specs.Types.{TypeForm, typed, any, of, forms_end}
 use Rattle.kt_types_tree.specs.Hierarchy.{SuperForm, HeaderForm, HierarchyForm}
 use Rattle.kt_typed.specs.declared.headers.DeclaredTypeParameter.{DeclaredTypeParameter}
 use Rattle.kt_decls_types.specs.declared.scopes.NamedClass.{NamedClass}
 use Rattle.kt_decls_types.specs.References.{resolved}
-use Rattle.kt_decls_rules.specs.Names.{is_name, throwable_names}
+use Rattle.kt_types_builtins.specs.declared.throwables.BuiltInThrowable.{BuiltInThrowable}
+use Rattle.kt_types_builtins.specs.Throwables as builtin
+use Rattle.kt_types_builtins.specs.Throwables.{throwable_name, throwable_super, throwables}
+use Rattle.kt_decls_rules.specs.Names.{is_name}
 
 -- A name of a class with its number of type parameters. The rows of the hierarchy are those of the list.
 pub record ClassEntry : Type 0 where
   pub name : List ℕ
   pub parameters : ℕ
 
-abbrev pub throwable_entry : List ℕ → ClassEntry
-throwable_entry x = record { name = x; parameters = 0 }
+abbrev pub throwable_entry : BuiltInThrowable → ClassEntry
+throwable_entry t = record { name = throwable_name t; parameters = 0 }
 
 abbrev pub class_entry : DeclarationTree → List ClassEntry
 class_entry (function f) = []
@@ -32,7 +33,7 @@ class_entry (constant c) = []
 
 -- first the throwables, then the classes, interfaces and enums of the file in text order
 abbrev pub class_entries : List DeclarationTree → List ClassEntry
-class_entries ds = map throwable_entry throwable_names ++ flat_map class_entry ds
+class_entries ds = map throwable_entry throwables ++ flat_map class_entry ds
 
 -- the first of a name
 abbrev pub class_from : ℕ → List ClassEntry → List ℕ → Option NamedClass
@@ -136,15 +137,15 @@ pub record Row : Type 0 where
   pub declaration : Option Placed
   pub supertypes : List SuperForm
 
-abbrev pub throwable_row : List ℕ → Row
-throwable_row parents =
-    record { declaration = None; supertypes = map (λ c. record { class = c; arguments = forms_end }) parents }
+abbrev pub super_row : BuiltInThrowable → SuperForm
+super_row t = record { class = builtin.throwable_row t; arguments = forms_end }
 
--- each throwable's parent, by its row
-unfoldable pub throwable_parents : List (List ℕ)
-throwable_parents =
-    [] ∷ (0 ∷ []) ∷ (1 ∷ []) ∷ (2 ∷ []) ∷ (2 ∷ []) ∷ (2 ∷ []) ∷ (2 ∷ []) ∷ (2 ∷ []) ∷ (2 ∷ []) ∷ (2 ∷ [])
-    ∷ (9 ∷ []) ∷ (9 ∷ []) ∷ []
+abbrev pub super_rows : Option BuiltInThrowable → List SuperForm
+super_rows None = []
+super_rows (Some t) = super_row t ∷ []
+
+abbrev pub throwable_row : BuiltInThrowable → Row
+throwable_row t = record { declaration = None; supertypes = super_rows (throwable_super t) }
 
 abbrev pub has_row : DeclarationTree → Bool
 has_row (function f) = false
@@ -162,7 +163,7 @@ rows_of ds (p ∷ ps) = if has_row p.declaration then class_row ds p ∷ rows_of
 
 -- first the throwables, then the classes, interfaces and enums of the file in text order
 abbrev pub rows : List DeclarationTree → List Row
-rows ds = map throwable_row throwable_parents ++ rows_of ds (placed ds)
+rows ds = map throwable_row throwables ++ rows_of ds (placed ds)
 
 abbrev pub supers_or_none : Option Row → List SuperForm
 supers_or_none None = []

@@ -7,10 +7,11 @@ use Rattle.kt_types_tree.specs.Types.{TypeForm, ShapeForm, typed, nothing, any, 
 use Rattle.kt_typed.specs.declared.headers.DeclaredTypeParameter.{DeclaredTypeParameter}
 use Rattle.kt_decls_types.specs.declared.scopes.NamedClass.{NamedClass}
 use Rattle.kt_decls_types.specs.declared.scopes.NamedParameter.{NamedParameter}
-use Rattle.kt_decls_types.specs.declared.names.BuiltInType.{BuiltInType}
+use Rattle.kt_types_builtins.specs.declared.types.BuiltInType.{BuiltInType}
+use Rattle.kt_types_builtins.specs.Types.{type_of_name}
 use Rattle.kt_decls_types.specs.declared.names.Meaning.{Meaning}
 use Rattle.kt_decls_types.specs.declared.names.Meaning.TheVariants as means
-use Rattle.kt_decls_types.specs.Names.{built_in_named, meaning}
+use Rattle.kt_decls_types.specs.Names.{meaning}
 use Rattle.kt_decls_types.specs.Scopes.{parameter_named}
 use Rattle.kt_tree.specs.Types.{TypeTree, TypeTrees, named, function, nullable, parenthesized, types_end, type_then}
 
@@ -35,7 +36,7 @@ meaning_among (Some p) t c = Some (parameter_meaning p)
 meaning_among None t c = meaning_of_others t c
 
 abbrev pub meaning_of : (List ℕ → Option NamedClass) → List DeclaredTypeParameter → List ℕ → Option Meaning
-meaning_of classes parameters x = meaning_among (parameter_named parameters x) (built_in_named x) (classes x)
+meaning_of classes parameters x = meaning_among (parameter_named parameters x) (type_of_name x) (classes x)
 
 abbrev pub is_nullable : TypeForm → Bool
 is_nullable (typed n s) = n

@@ -8,11 +8,12 @@ ghost use Rattle.kt_types_tree.specs.Types.{ShapeForm, type_form, typed};
 ghost use Rattle.kt_decls_types.specs.declared.names.Meaning.TheVariants.{Taking};
 ghost use Rattle.std.specs.Prelude.{◌≡◌, ◌<◌, ◌^◌, length, [], map, false};
 
-use crate::names::{BuiltInType, Meaning};
+use crate::names::{Meaning, meaning_of_built_in};
 use crate::scopes::{ClassNames, Unresolved, parameter_named};
 use kt_base::Name;
 use kt_tree::TypeReference;
 use kt_typed::DeclaredTypeParameter;
+use kt_types_builtins::BuiltInType;
 use kt_types_tree::{KtType, TypeConstructor};
 use sqlite_items::Items;
 use std::alloc::Global;
@@ -28,8 +29,8 @@ fn meaning_of(
 {
     match parameter_named(parameters, name) {
         Some(parameter) => Some(Meaning::Parameter(parameter.row, parameter.place)),
-        None => match BuiltInType::named(name.as_bytes()) {
-            Some(built_in) => Some(built_in.meaning()),
+        None => match BuiltInType::of_name(name.as_bytes()) {
+            Some(built_in) => Some(meaning_of_built_in(built_in)),
             None => match classes.class_named(name) {
                 Some(class) => Some(Meaning::Taking(
                     TypeConstructor::Class(class.row),
@@ -143,9 +144,9 @@ pub fn resolved(
 {
     match written {
         TypeReference::Named(name, arguments) => {
-            let meaning = or_refused(meaning_of(classes, parameters, name))?;
+            let head = or_refused(meaning_of(classes, parameters, name))?;
             let arguments = resolved_all(alloc, classes, parameters, arguments.as_slice())?;
-            applied(meaning, arguments)
+            applied(head, arguments)
         }
         TypeReference::Function(suspends, taken, given) => {
             let taken = resolved_all(alloc, classes, parameters, taken.as_slice())?;
