@@ -1,4 +1,6 @@
 pub mod Found
+pub mod Ordered
+pub mod PoolAgain
 pub mod PoolFound
 pub mod RawLaws
 pub mod Spelled
