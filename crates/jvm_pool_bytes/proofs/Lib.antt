@@ -6,3 +6,4 @@ pub mod RawLaws
 pub mod Spelled
 pub mod Standing
 pub mod TextLaws
+pub mod Written

@@ -89,7 +89,7 @@ grown_is_pool : (ms : List Entry) → AreEntries (with_mentions ms []) → 1 + u
 grown_is_pool ms entries count = record {
   entries = entries;
   different = differ (with_mentions ms []) (λ e i h. (one_index ms e i).1 h) 1 (with_mentions ms []) (λ i e h. h);
-  whole = λ e p h g.
+  whole = λ e h p g.
       let i = has_place 1 (with_mentions ms []) e h in
       let j = parts_stand ms e p i.0 i.1 (is_behind e p g) in
       has_seek 1 (with_mentions ms []) p ∙ ap is_some j.1;

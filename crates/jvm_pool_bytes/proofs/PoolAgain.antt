@@ -169,7 +169,7 @@ module _ (es : List Entry) (is_pool : IsPool es) where
       ∙ raw_at_map es 1 es i.0 p (entry_from_seek 1 es p i.0 i.1)
 
   part : (e p : Entry) → has es e ≡ true → has (parts e) p ≡ true → raw_at 1 (map (raw_of es) es) (index es p) ≡ Some (raw_of es p)
-  part e p h g = stands p (is_pool.whole e p h g)
+  part e p h g = stands p (is_pool.whole e h p g)
 
   class_name : (c : List ℕ) → has es (entry.Class c) ≡ true
       → class_in (map (raw_of es) es) (raw_at 1 (map (raw_of es) es) (index es (entry.Class c))) ≡ c
@@ -204,18 +204,18 @@ module _ (es : List Entry) (is_pool : IsPool es) where
       ap (λ (o : Option RawEntry). entry.Text (text_in (map (raw_of es) es) o))
       (part (entry.Text t) (entry.Utf8 t) h (has_first (entry.Utf8 t) []))
   content_again (entry.Field c n d) h =
-      let class_there = is_pool.whole (entry.Field c n d) (entry.Class c) h (has_first (entry.Class c) (entry.NameAndType n d ∷ [])) in
-      let pair_there = is_pool.whole (entry.Field c n d) (entry.NameAndType n d) h
+      let class_there = is_pool.whole (entry.Field c n d) h (entry.Class c) (has_first (entry.Class c) (entry.NameAndType n d ∷ [])) in
+      let pair_there = is_pool.whole (entry.Field c n d) h (entry.NameAndType n d)
       (has_next (entry.NameAndType n d) (entry.Class c) (entry.NameAndType n d ∷ []) (has_first (entry.NameAndType n d) [])) in
       cc (class_name c class_there, pair_name n d pair_there, pair_descriptor n d pair_there)
   content_again (entry.Method c n d) h =
-      let class_there = is_pool.whole (entry.Method c n d) (entry.Class c) h (has_first (entry.Class c) (entry.NameAndType n d ∷ [])) in
-      let pair_there = is_pool.whole (entry.Method c n d) (entry.NameAndType n d) h
+      let class_there = is_pool.whole (entry.Method c n d) h (entry.Class c) (has_first (entry.Class c) (entry.NameAndType n d ∷ [])) in
+      let pair_there = is_pool.whole (entry.Method c n d) h (entry.NameAndType n d)
       (has_next (entry.NameAndType n d) (entry.Class c) (entry.NameAndType n d ∷ []) (has_first (entry.NameAndType n d) [])) in
       cc (class_name c class_there, pair_name n d pair_there, pair_descriptor n d pair_there)
   content_again (entry.InterfaceMethod c n d) h =
-      let class_there = is_pool.whole (entry.InterfaceMethod c n d) (entry.Class c) h (has_first (entry.Class c) (entry.NameAndType n d ∷ [])) in
-      let pair_there = is_pool.whole (entry.InterfaceMethod c n d) (entry.NameAndType n d) h
+      let class_there = is_pool.whole (entry.InterfaceMethod c n d) h (entry.Class c) (has_first (entry.Class c) (entry.NameAndType n d ∷ [])) in
+      let pair_there = is_pool.whole (entry.InterfaceMethod c n d) h (entry.NameAndType n d)
       (has_next (entry.NameAndType n d) (entry.Class c) (entry.NameAndType n d ∷ []) (has_first (entry.NameAndType n d) [])) in
       cc (class_name c class_there, pair_name n d pair_there, pair_descriptor n d pair_there)
   content_again (entry.NameAndType n d) h =
@@ -248,37 +248,37 @@ module _ (es : List Entry) (is_pool : IsPool es) where
     each_fits (entry.Long n) h a = refl
     each_fits (entry.Class n) h a =
         kind_is (is_text (map (raw_of es) es) count is_name) (entry.Utf8 n)
-        (is_pool.whole (entry.Class n) (entry.Utf8 n) h (has_first (entry.Utf8 n) [])) a
+        (is_pool.whole (entry.Class n) h (entry.Utf8 n) (has_first (entry.Utf8 n) [])) a
     each_fits (entry.Text t) h a =
         kind_is (is_text (map (raw_of es) es) count (λ t. true)) (entry.Utf8 t)
-        (is_pool.whole (entry.Text t) (entry.Utf8 t) h (has_first (entry.Utf8 t) [])) refl
+        (is_pool.whole (entry.Text t) h (entry.Utf8 t) (has_first (entry.Utf8 t) [])) refl
     each_fits (entry.Field c n d) h a =
         both _ _
         (kind_is (is_class (map (raw_of es) es) count) (entry.Class c)
-        (is_pool.whole (entry.Field c n d) (entry.Class c) h (has_first (entry.Class c) (entry.NameAndType n d ∷ []))) refl)
-        (pair_is is_method_descriptor n d (is_pool.whole (entry.Field c n d) (entry.NameAndType n d) h
+        (is_pool.whole (entry.Field c n d) h (entry.Class c) (has_first (entry.Class c) (entry.NameAndType n d ∷ []))) refl)
+        (pair_is is_method_descriptor n d (is_pool.whole (entry.Field c n d) h (entry.NameAndType n d)
         (has_next (entry.NameAndType n d) (entry.Class c) (entry.NameAndType n d ∷ []) (has_first (entry.NameAndType n d) [])))
         (unless (is_method_descriptor d) (λ g. not_both d a g)))
     each_fits (entry.Method c n d) h a =
         both _ _
         (kind_is (is_class (map (raw_of es) es) count) (entry.Class c)
-        (is_pool.whole (entry.Method c n d) (entry.Class c) h (has_first (entry.Class c) (entry.NameAndType n d ∷ []))) refl)
-        (pair_is is_field_descriptor n d (is_pool.whole (entry.Method c n d) (entry.NameAndType n d) h
+        (is_pool.whole (entry.Method c n d) h (entry.Class c) (has_first (entry.Class c) (entry.NameAndType n d ∷ []))) refl)
+        (pair_is is_field_descriptor n d (is_pool.whole (entry.Method c n d) h (entry.NameAndType n d)
         (has_next (entry.NameAndType n d) (entry.Class c) (entry.NameAndType n d ∷ []) (has_first (entry.NameAndType n d) [])))
         (unless (is_field_descriptor d) (λ g. not_both d g a)))
     each_fits (entry.InterfaceMethod c n d) h a =
         both _ _
         (kind_is (is_class (map (raw_of es) es) count) (entry.Class c)
-        (is_pool.whole (entry.InterfaceMethod c n d) (entry.Class c) h (has_first (entry.Class c) (entry.NameAndType n d ∷ []))) refl)
-        (pair_is is_field_descriptor n d (is_pool.whole (entry.InterfaceMethod c n d) (entry.NameAndType n d) h
+        (is_pool.whole (entry.InterfaceMethod c n d) h (entry.Class c) (has_first (entry.Class c) (entry.NameAndType n d ∷ []))) refl)
+        (pair_is is_field_descriptor n d (is_pool.whole (entry.InterfaceMethod c n d) h (entry.NameAndType n d)
         (has_next (entry.NameAndType n d) (entry.Class c) (entry.NameAndType n d ∷ []) (has_first (entry.NameAndType n d) [])))
         (unless (is_field_descriptor d) (λ g. not_both d g a)))
     each_fits (entry.NameAndType n d) h a =
         both _ _
         (kind_is (is_text (map (raw_of es) es) count is_name) (entry.Utf8 n)
-        (is_pool.whole (entry.NameAndType n d) (entry.Utf8 n) h (has_first (entry.Utf8 n) (entry.Utf8 d ∷ []))) a.0)
+        (is_pool.whole (entry.NameAndType n d) h (entry.Utf8 n) (has_first (entry.Utf8 n) (entry.Utf8 d ∷ []))) a.0)
         (kind_is (is_text (map (raw_of es) es) count (λ t. is_field_descriptor t || is_method_descriptor t)) (entry.Utf8 d)
-        (is_pool.whole (entry.NameAndType n d) (entry.Utf8 d) h
+        (is_pool.whole (entry.NameAndType n d) h (entry.Utf8 d)
         (has_next (entry.Utf8 d) (entry.Utf8 n) (entry.Utf8 d ∷ []) (has_first (entry.Utf8 d) []))) a.1)
 
   -- ---- reading them
@@ -306,7 +306,7 @@ module _ (es : List Entry) (is_pool : IsPool es) where
   unfolding count_mentions
   read_again e h t b bytes =
       let fit = entry_each es e is_pool.entries h in
-      let allowed = raw_allowed es e fit (λ p g. index_small p (is_pool.whole e p h g)) in
+      let allowed = raw_allowed es e fit (λ p g. index_small p (is_pool.whole e h p g)) in
       let count : count_mentions [] (mentions (raw_entry.spell (raw_of es e))) b ≡ Some b =
       ap (λ (ms : List Entry). count_mentions [] ms b) (no_mentions (raw_of es e)) in
       ap (λ (l : List ℕ). raw_entry.read (spot t b (l ++ bytes))) (sym (raw_spelled [] es e fit))

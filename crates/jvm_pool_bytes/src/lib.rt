@@ -4,3 +4,6 @@
 pub mod laws;
 pub mod raws;
 pub mod tags;
+pub mod writing;
+
+pub use writing::put_pool;
