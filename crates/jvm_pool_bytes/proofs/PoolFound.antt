@@ -289,7 +289,7 @@ pool_is_spelled s es rest fit h =
           record {
             entries = are_entries all r.fresh fit r.allowed 1 all w;
             different = are_different all r.fresh fit r.allowed 1 all w;
-            whole = is_whole all r.fresh fit r.allowed;
+            whole = λ e h p g. is_whole all r.fresh fit r.allowed e p h g;
             count = omega (arith, count, units_are, below);
           },
           bytes ∙ ap (λ (m : ℕ). to_be_bytes w16 m ++ u.bytes) (count ∙ ap (λ (m : ℕ). 1 + m) (sym units_are))

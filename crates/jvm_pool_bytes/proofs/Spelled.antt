@@ -24,12 +24,12 @@ use Rattle.jvm_pool_bytes.proofs.Standing.{with_indices, named_text, named_pair,
 abbrev pub raw_of : List Entry → Entry → RawEntry
 raw_of es e = with_indices e (map (index es) (parts e))
 
-int_seen : (n : ℤ) → FitsSigned w32 n → int_inside (raw.Int n) ≡ Some (cast_unsigned w32 n)
+pub int_seen : (n : ℤ) → FitsSigned w32 n → int_inside (raw.Int n) ≡ Some (cast_unsigned w32 n)
 int_seen n fits =
     ap (λ (b : Bool). cond b (Some (cast_unsigned w32 n)) None)
     ((Decides-int_eq (cast_signed w32 (cast_unsigned w32 n)) n).1 (to_z-of_z w32 n fits))
 
-long_seen : (n : ℤ) → FitsSigned w64 n → long_inside (raw.Long n) ≡ Some (cast_unsigned w64 n)
+pub long_seen : (n : ℤ) → FitsSigned w64 n → long_inside (raw.Long n) ≡ Some (cast_unsigned w64 n)
 long_seen n fits =
     ap (λ (b : Bool). cond b (Some (cast_unsigned w64 n)) None)
     ((Decides-int_eq (cast_signed w64 (cast_unsigned w64 n)) n).1 (to_z-of_z w64 n fits))

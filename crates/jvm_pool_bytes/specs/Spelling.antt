@@ -68,9 +68,13 @@ IsEntry (NameAndType name descriptor) =
 abbrev pub AreEntries : List Entry → Type 0
 AreEntries es = AllByRecursion IsEntry es
 
+-- each part of the entry is among the entries
+abbrev pub HasParts : List Entry → Entry → Type 0
+HasParts es e = (p : Entry) → has (parts e) p ≡ true → has es p ≡ true
+
 -- the entries of a pool: they differ, each has its parts among them, and their count fits two bytes
 pub record IsPool (es : List Entry) : Type 0 where
   pub entries : AreEntries es
   pub different : AreDifferent es
-  pub whole : (e p : Entry) → has es e ≡ true → has (parts e) p ≡ true → has es p ≡ true
+  pub whole : (e : Entry) → has es e ≡ true → HasParts es e
   pub count : 1 + units es < 2 ^ 16
