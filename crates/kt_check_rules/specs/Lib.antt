@@ -6,3 +6,5 @@ pub mod Literals
 pub mod Names
 pub mod Learning
 pub mod Operators
+pub mod Access
+pub mod Calls
