@@ -1,6 +1,6 @@
 -- What a header is, told by its tests.
-use Rattle.std.specs.Prelude.{ℕ, Bool, List, Option, ◌≡◌, map, not}
-use Rattle.std.proofs.Common.{ap, sym, ◌∙◌}
+use Rattle.std.specs.Prelude.{Bool, ◌≡◌, map, not}
+use Rattle.std.proofs.Common.{ap, ◌∙◌}
 use Rattle.kt_tree.specs.Declarations.{FunctionTree}
 use Rattle.kt_decls_rules.specs.Names.{Taken, taken_by_function, are_distinct}
 use Rattle.kt_decls_table.specs.Functions.{Classes, is_fine_name, header_if, top_function}

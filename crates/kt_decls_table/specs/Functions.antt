@@ -3,7 +3,7 @@ use Rattle.std.specs.Prelude.{ℕ, Bool, true, false, List, [], ◌∷◌, ◌++
 use Rattle.std.specs.Cmp.Lexicographic.{pointwise}
 use Rattle.kt_tree.specs.declared.declarations.FunctionModifiers.{FunctionModifiers}
 use Rattle.kt_tree.specs.Types.{TypeTree}
-use Rattle.kt_tree.specs.Declarations.{FunctionTree, TypedParameterTree, FunctionBodyTree}
+use Rattle.kt_tree.specs.Declarations.{FunctionTree, TypedParameterTree}
 use Rattle.kt_types_tree.specs.declared.types.TypeConstructor.TheVariants as constructor
 use Rattle.kt_types_tree.specs.declared.types.TypeConstructor.{TypeConstructor}
 use Rattle.kt_types_tree.specs.Types.{TypeForm, ShapeForm, TypeForms, typed, nothing, any, parameter, of, forms_end, form_then}

@@ -10,10 +10,10 @@ ghost use Rattle.kt_tree.specs.Declarations.{function_tree, typed_parameter_tree
 ghost use Rattle.kt_tree.specs.Types.{maybe_type};
 ghost use Rattle.kt_typed.specs.Headers.{parameter_form, function_form};
 ghost use Rattle.kt_types_tree.specs.Types.{type_form, shape_form, forms_of};
-ghost use Rattle.std.specs.Prelude.{◌≡◌, [], Some, map, length, OnOk};
+ghost use Rattle.std.specs.Prelude.{◌≡◌, [], map, length, IfOk, OnOk};
 
 use crate::apart::are_distinct;
-use kt_base::Name;
+use kt_base::{Name, NoMemory};
 use kt_decls_names::TakenNames;
 use kt_decls_types::{ClassNames, Unresolved, resolved};
 use kt_tree::{FunctionDeclaration, FunctionModifiers, Parameter, TypeReference};
@@ -193,12 +193,12 @@ fn header_if(
 }
 
 /// The number of items, as far as a `u32` counts.
-fn count_of(parameters: &[Parameter]) -> Result<u32, Unresolved>
-    ensures { Answers (λ n. n) result (Some (length parameters.now)) }
+fn count_of(parameters: &[Parameter]) -> Result<u32, NoMemory>
+    ensures { IfOk result (λ count. count ≡ length (map typed_parameter_tree parameters.now)) }
 {
     match u32::try_from(parameters.len()) {
         Ok(count) => Ok(count),
-        Err(_) => Err(Unresolved::NoMemory),
+        Err(_) => Err(NoMemory),
     }
 }
 
