@@ -8,7 +8,7 @@ use Rattle.kt_tree.specs.Declarations.{DeclarationTree, class, FunctionTree, met
 use Rattle.kt_types_tree.specs.declared.types.TypeConstructor.TheVariants as constructor
 use Rattle.kt_types_tree.specs.Types.{typed, of, forms_end}
 use Rattle.kt_types_builtins.specs.Types.{types, type_of_name}
-use Rattle.kt_types_builtins.specs.Throwables.{throwables}
+use Rattle.kt_types_builtins.specs.Throwables.{throwables, throwable_of_name}
 use Rattle.kt_decls_rules.specs.Tables.{meant}
 use Rattle.kt_decls_rules.specs.Members.{inherited_within}
 use Rattle.kt_decls_rules.specs.ClassRules.{above, row_behind}
@@ -69,7 +69,7 @@ row_of_second = refl
 
 -- what B has from above isn't open
 not_open : map (λ m. m.is_open) (above file 13 g) ≡ false ∷ []
-unfolding types type_of_name throwables inherited_within
+unfolding types type_of_name throwables throwable_of_name inherited_within
 not_open = refl
 
 -- the third header that is judged behind two classes and a function is at 2:17

@@ -16,13 +16,10 @@ use Rattle.kt_types_builtins.specs.Throwables as builtin
 use Rattle.kt_types_builtins.specs.Throwables.{throwable_name, throwable_super, throwables}
 use Rattle.kt_decls_rules.specs.Names.{is_name}
 
--- A name of a class with its number of type parameters. The rows of the hierarchy are those of the list.
+-- The name of a class of the file, with its number of type parameters.
 pub record ClassEntry : Type 0 where
   pub name : List ℕ
   pub parameters : ℕ
-
-abbrev pub throwable_entry : BuiltInThrowable → ClassEntry
-throwable_entry t = record { name = throwable_name t; parameters = 0 }
 
 abbrev pub class_entry : DeclarationTree → List ClassEntry
 class_entry (function f) = []
@@ -31,18 +28,15 @@ class_entry (interface i) = record { name = i.name; parameters = length i.type_p
 class_entry (enum e) = record { name = e.name; parameters = 0 } ∷ []
 class_entry (constant c) = []
 
--- first the throwables, then the classes, interfaces and enums of the file in text order
-abbrev pub class_entries : List DeclarationTree → List ClassEntry
-class_entries ds = map throwable_entry throwables ++ flat_map class_entry ds
-
 -- the first of a name
 abbrev pub class_from : ℕ → List ClassEntry → List ℕ → Option NamedClass
 class_from row [] x = None
 class_from row (c ∷ cs) x =
     if is_name c.name x then Some (record { row = row; parameters = c.parameters }) else class_from (row + 1) cs x
 
+-- the rows of the file's classes stand behind those of the throwables
 abbrev pub class_named : List DeclarationTree → List ℕ → Option NamedClass
-class_named ds = class_from 0 (class_entries ds)
+class_named ds = class_from (length throwables) (flat_map class_entry ds)
 
 abbrev pub type_parameters_of : DeclarationTree → List TypeParameterTree
 type_parameters_of (function f) = f.type_parameters

@@ -4,6 +4,7 @@ ghost use Rattle.kt_decls_types.specs.Answers.{Answers, Resolves};
 ghost use Rattle.kt_decls_types.specs.References as spec;
 ghost use Rattle.kt_decls_types.specs.Scopes.{class_named};
 ghost use Rattle.kt_tree.specs.Types.{type_tree, types_of};
+ghost use Rattle.kt_types_builtins.specs.Throwables.{throwable_of_name};
 ghost use Rattle.kt_types_tree.specs.Types.{ShapeForm, type_form, typed};
 ghost use Rattle.kt_decls_types.specs.declared.names.Meaning.TheVariants.{Taking};
 ghost use Rattle.std.specs.Prelude.{◌≡◌, ◌<◌, ◌^◌, length, [], map, false};
@@ -13,10 +14,26 @@ use crate::scopes::{ClassNames, Unresolved, parameter_named};
 use kt_base::Name;
 use kt_tree::TypeReference;
 use kt_typed::DeclaredTypeParameter;
-use kt_types_builtins::BuiltInType;
+use kt_types_builtins::{BuiltInThrowable, BuiltInType};
 use kt_types_tree::{KtType, TypeConstructor};
 use sqlite_items::Items;
 use std::alloc::Global;
+
+/// What the name of a throwable or of a class stands for.
+fn meaning_of_class(classes: &ClassNames, name: &Name) -> Option<Meaning>
+    ensures { result ≡ spec.meaning_of_class (throwable_of_name name.now) (class_named classes.now name.now) }
+{
+    match BuiltInThrowable::of_name(name.as_bytes()) {
+        Some(throwable) => Some(Meaning::Taking(TypeConstructor::Class(throwable.row()), 0)),
+        None => match classes.class_named(name) {
+            Some(class) => Some(Meaning::Taking(
+                TypeConstructor::Class(class.row),
+                class.parameters,
+            )),
+            None => None,
+        },
+    }
+}
 
 /// What a name stands for: a type parameter hides every other name.
 fn meaning_of(
@@ -31,13 +48,7 @@ fn meaning_of(
         Some(parameter) => Some(Meaning::Parameter(parameter.row, parameter.place)),
         None => match BuiltInType::of_name(name.as_bytes()) {
             Some(built_in) => Some(meaning_of_built_in(built_in)),
-            None => match classes.class_named(name) {
-                Some(class) => Some(Meaning::Taking(
-                    TypeConstructor::Class(class.row),
-                    class.parameters,
-                )),
-                None => None,
-            },
+            None => meaning_of_class(classes, name),
         },
     }
 }
