@@ -1,2 +1,4 @@
+pub mod Coded
+pub mod Grammar
 pub mod Instructions
 pub mod Kinds
