@@ -2,5 +2,6 @@
 #![tactic(auto)]
 
 pub mod kinds;
+pub mod laws;
 
 pub use kinds::EntryKind;
