@@ -203,7 +203,7 @@ append_into : (n : ℕ) (x : ℕ × List FrameType) → append_inside n (Append 
 append_into n x = ap (λ (b : Bool). cond b (Some x) None) (eq-eqb n n refl)
 
 module _ (es : List Entry) where
-  lawful_nothing : Lawful es nothing
+  pub lawful_nothing : Lawful es nothing
   unfolding count_mentions
   lawful_nothing = record {
     found = λ s x fits h.
