@@ -8,3 +8,6 @@ pub mod Learning
 pub mod Operators
 pub mod Access
 pub mod Calls
+pub mod Completion
+pub mod Conditionals
+pub mod Loops
