@@ -11,3 +11,6 @@ pub mod Calls
 pub mod Completion
 pub mod Conditionals
 pub mod Loops
+pub mod Assignments
+pub mod Statements
+pub mod Rules
