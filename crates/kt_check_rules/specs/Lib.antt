@@ -14,3 +14,6 @@ pub mod Loops
 pub mod Assignments
 pub mod Statements
 pub mod Rules
+pub mod Bodies
+pub mod Units
+pub mod Place
