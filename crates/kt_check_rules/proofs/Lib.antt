@@ -1,1 +1,3 @@
 mod Once
+mod OnceOperators
+mod OnceCalls
