@@ -1,3 +1,4 @@
 mod Once
 mod OnceOperators
 mod OnceCalls
+mod OnceBlocks
