@@ -2,3 +2,5 @@ mod Once
 mod OnceOperators
 mod OnceCalls
 mod OnceBlocks
+mod OnceLoops
+mod OnceRules
