@@ -4,3 +4,5 @@ mod OnceCalls
 mod OnceBlocks
 mod OnceLoops
 mod OnceRules
+mod OnceBodies
+mod Placed

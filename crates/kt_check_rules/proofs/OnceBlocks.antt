@@ -104,11 +104,12 @@ no_else_once = record {
 pub else_once : (K : Context) (body : BlockRule) → OnceFor body → OnceElse (Else K body)
 else_once K body i = record {
   all = λ s t w x u v ts us k l a b p q y z.
-      let r = once i p q y.is z.is in
-      (y.whole ∙ rw r.0 refl ∙ sym z.whole,
-       y.types ∙ rw r.0 refl ∙ sym z.types,
-       y.ends ∙ rw (r.0, r.1) refl ∙ sym z.ends,
-       r.1);
+      let r = once i p q y.is z.is in (
+        y.whole ∙ rw r.0 refl ∙ sym z.whole,
+        y.types ∙ rw r.0 refl ∙ sym z.types,
+        y.ends ∙ rw (r.0, r.1) refl ∙ sym z.ends,
+        r.1,
+      );
 }
 
 pub ifs_once : (K : Context) (test : Rule) (branch : BlockRule) (otherwise : ElseRule) → OnceFor test → OnceFor branch → OnceElse otherwise → OnceFor (Ifs K test branch otherwise)
@@ -195,11 +196,12 @@ entry_then_once K conditions body others i j k = record {
   all = λ l m s t w x u v ts us f g a b o p q y z.
       let c = i.all l m s t _ _ _ _ _ _ o p y.asked z.asked in
       let d = once j (rw (c.1, c.2) refl) q y.done z.done in
-      let r = k.all l m _ _ w x _ _ _ _ _ _ a b o (rw (c.2, d.1) refl) q y.rest z.rest in
-      (y.whole ∙ rw (c.0, d.0, r.0) refl ∙ sym z.whole,
-       y.types ∙ rw (d.0, r.1) refl ∙ sym z.types,
-       y.ways ∙ rw (d.0, d.1, r.2) refl ∙ sym z.ways,
-       r.3);
+      let r = k.all l m _ _ w x _ _ _ _ _ _ a b o (rw (c.2, d.1) refl) q y.rest z.rest in (
+        y.whole ∙ rw (c.0, d.0, r.0) refl ∙ sym z.whole,
+        y.types ∙ rw (d.0, r.1) refl ∙ sym z.types,
+        y.ways ∙ rw (d.0, d.1, r.2) refl ∙ sym z.ways,
+        r.3,
+      );
 }
 
 when_rest : (K : Context) (entries : EntriesRule) → OnceEntries entries → (l m : List ExpressionForm) (f g : EntryForms → MaybeExpression) (s t : State) (w x : Use) (us vs : List ExpressionForm) (a b : State) → l ≡ m → f ≡ g → s ≡ t → w ≡ x → WhenRest K entries l f s w us a → WhenRest K entries m g t x vs b → (us ≡ vs) × (a ≡ b)

@@ -227,9 +227,9 @@ pub record WhenRest (K : Context) (entries : EntriesRule) (subject : List Expres
   pub gives :
       GivesOne (t.when whole (shown (entries_of es)) (entries_of es))
       (with_facts
-       (joined s.facts
-        (paths ++ no_entry (is_exhaustive K.headers (shown (entries_of es)) (entries_of es)) end.facts))
-       end)
+      (joined s.facts
+      (paths ++ no_entry (is_exhaustive K.headers (shown (entries_of es)) (entries_of es)) end.facts))
+      end)
       us
       behind
 

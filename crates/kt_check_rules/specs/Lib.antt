@@ -17,3 +17,4 @@ pub mod Rules
 pub mod Bodies
 pub mod Units
 pub mod Place
+pub mod Laws
