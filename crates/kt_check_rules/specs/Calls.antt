@@ -194,7 +194,7 @@ method_of (typed false (of c.String ts)) x =
 method_of (typed false (of c.Int ts)) x =
     or_else (method_if (is_name x (codes "toLong")) (method_with method.ToLong [] long_type))
     (or_else (method_if (is_name x (codes "toChar")) (method_with method.ToChar [] char_type))
-     (method_if (is_name x (codes "inv")) (method_with method.Inv [] int_type)))
+    (method_if (is_name x (codes "inv")) (method_with method.Inv [] int_type)))
 method_of (typed false (of c.Long ts)) x =
     or_else (method_if (is_name x (codes "toInt")) (method_with method.ToInt [] int_type))
     (method_if (is_name x (codes "inv")) (method_with method.Inv [] long_type))

@@ -8,3 +8,13 @@ pub mod Learning
 pub mod Operators
 pub mod Access
 pub mod Calls
+pub mod Completion
+pub mod Conditionals
+pub mod Loops
+pub mod Assignments
+pub mod Statements
+pub mod Rules
+pub mod Bodies
+pub mod Units
+pub mod Place
+pub mod Laws
