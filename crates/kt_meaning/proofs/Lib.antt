@@ -1,2 +1,3 @@
 mod Trees
 mod Examples
+mod KeepingParts
