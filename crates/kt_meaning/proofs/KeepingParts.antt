@@ -60,6 +60,9 @@ use Rattle.kt_meaning.specs.Exceptions.{or_caught, caught_by, and_last, with_las
 use Rattle.kt_meaning.specs.Calls.{constructed, message_of, built_throwable, run_superclass, built_above, initialized, declaration, body_on, called_on, called_value}
 use Rattle.kt_meaning.specs.BuiltIns.{done, printed, print, drawn, launch, awaited, suspend, won, resumed, filled, new_array, call_built_in, cut_out, is_outside, units_between, substring, converted, call_built_in_on}
 
+pub reflexive : (m : ℕ) → m ≤ m
+reflexive m = omega arith
+
 -- Types.
 
 cast_result_keeps : {n m : ℕ} (fits or_null : Bool) (x : Value) → Keeps n m (cast_result fits or_null x)

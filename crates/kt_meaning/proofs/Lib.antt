@@ -1,3 +1,4 @@
 mod Trees
 mod Examples
 mod KeepingParts
+mod KeepingEval
