@@ -2,3 +2,4 @@ mod Trees
 mod Examples
 mod KeepingParts
 mod KeepingEval
+pub mod Whole
