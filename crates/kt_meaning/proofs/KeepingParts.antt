@@ -1,6 +1,6 @@
 -- The rules of each chapter keep what code keeps.
-use Rattle.std.proofs.Common.{◌≡◌, ◌≤◌, ℕ, zero, suc, ℤ, pos, negsuc, Bool, true, false, cond, List, [], ◌∷◌, ◌++◌, Option, Some, None, arith, map}
-use Rattle.std.specs.Prelude.{◌&&◌, ◌==◌, slice_get, slice_set, int_le, length, drop, take, option_map, codes, replicate, ◌+◌, ◌+ℤ◌, int_lt, not}
+use Rattle.std.proofs.Common.{◌≤◌, ℕ, zero, suc, ℤ, pos, negsuc, Bool, true, false, List, [], ◌∷◌, ◌++◌, Option, Some, None, arith, map}
+use Rattle.std.specs.Prelude.{◌&&◌, ◌==◌, slice_get, int_le, length, take, option_map, codes, replicate, ◌+◌, ◌+ℤ◌, int_lt, not}
 use Rattle.kt_base.specs.declared.lumps.Lump.{Lump}
 use Rattle.kt_base.specs.declared.lumps.Node.{Node}
 use Rattle.kt_base.specs.declared.lumps.Node.TheVariants as node
@@ -39,13 +39,13 @@ use Rattle.kt_values.specs.Values.{Value, Shape, Object, instance, numbers, elem
 use Rattle.kt_values.specs.Numbers.{count_as_int}
 use Rattle.kt_values.specs.Throwables.{Fault, failed_cast, null_asserted, array_index, text_index, negative_size, already_resumed, zero_divisor, text_too_long}
 use Rattle.kt_values.specs.Texts.{text_of_basic, is_too_long}
-use Rattle.kt_values.specs.Runs.{World, Store, Stop, Gives, gave, thrown, returned, broken, continued, stopped, Run, then_do, ◌>>=◌, ◌>>◌, give, charge, or_unfit}
+use Rattle.kt_values.specs.Runs.{Store, Gives, gave, thrown, returned, broken, continued, stopped, Run}
 use Rattle.kt_values.specs.Heap.{object_of}
-use Rattle.kt_values.proofs.Keeping.{Kept, IsFine, Keeps, restrict, then_fine, fine_more, binds, follows, gives, throws_keeps, unfit_keeps, spent_keeps, or_unfit_keeps, charge_keeps, charged_keeps, no_turn_keeps, ask_keeps, make_keeps, reads, read_slot_keeps, write_slot_keeps, raise_keeps, cond_keeps}
-use Rattle.kt_meaning.specs.Activations.{Activation, Called, Callee, of_member, of_function, of_constructor, of_lambda, generated_equals, generated_to_string}
+use Rattle.kt_values.proofs.Keeping.{Kept, IsFine, Keeps, restrict, then_fine, binds, follows, gives, throws_keeps, unfit_keeps, spent_keeps, or_unfit_keeps, charge_keeps, charged_keeps, no_turn_keeps, ask_keeps, make_keeps, reads, read_slot_keeps, write_slot_keeps, raise_keeps, cond_keeps}
+use Rattle.kt_meaning.specs.Activations.{Activation, Called, of_member, of_constructor, of_lambda, generated_equals, generated_to_string}
 use Rattle.kt_meaning.specs.Classes as c
 use Rattle.kt_meaning.specs.Types.{is_of, cast_result, cast_to, asserted}
-use Rattle.kt_meaning.specs.Variables.{local_slot, set_local_slot, value_in, read_local, write_in, write_local, read_captured, write_captured, declare_as, declared, captured_from, captured_all, lambda_value}
+use Rattle.kt_meaning.specs.Variables.{local_slot, set_local_slot, value_in, read_local, write_in, write_local, read_captured, write_taken, write_captured, declare_as, declared, captured_from, captured_all, lambda_value}
 use Rattle.kt_meaning.specs.Lumps.{lump_of, exported, entry_from, made_from, closure_from, object_from, with_node, all_imported, one, imported, outcome, lambda_named}
 use Rattle.kt_meaning.specs.Equality.{equal_basic, call_equals, equals_of, equal, compared, properties_equal, data_equal}
 use Rattle.kt_meaning.specs.Printing.{call_to_string, to_string_of, text_of, joined, concatenated, put_properties, data_text}
@@ -102,8 +102,12 @@ write_local_keeps i new = binds (local_slot_keeps i) (write_in_keeps i new)
 pub read_captured_keeps : {n m : ℕ} (here : Activation) (i : ℕ) → Keeps n m (read_captured here i)
 read_captured_keeps here i = binds (or_unfit_keeps (slice_get here.captures i)) value_in_keeps
 
+write_taken_keeps : {n m : ℕ} (new x : Value) → Keeps n m (write_taken new x)
+write_taken_keeps new (v.reference variable place) = write_slot_keeps (v.reference variable place) 0 new
+write_taken_keeps new _ = unfit_keeps
+
 write_captured_keeps : {n m : ℕ} (here : Activation) (i : ℕ) (new : Value) → Keeps n m (write_captured here i new)
-write_captured_keeps here i new = binds (or_unfit_keeps (slice_get here.captures i)) (λ x. write_slot_keeps x 0 new)
+write_captured_keeps here i new = binds (or_unfit_keeps (slice_get here.captures i)) (write_taken_keeps new)
 
 declare_as_keeps : {n m : ℕ} (shared : Bool) (i : ℕ) (first : Value) → Keeps n m (declare_as shared i first)
 declare_as_keeps false i first = set_local_keeps i first
@@ -282,7 +286,7 @@ for_loop_keeps {m = m} as_value i last (suc j) first le h =
     let less : j ≤ m = omega (arith, le) in
     cond_keeps (int_le first last)
     (charged_keeps (follows (set_local_keeps i (as_value first))
-      (after_turn_keeps (restrict j less h) (for_loop_keeps as_value i last j (first +ℤ pos 1) less h))))
+    (after_turn_keeps (restrict j less h) (for_loop_keeps as_value i last j (first +ℤ pos 1) less h))))
     (gives tt)
 
 pub over_range_keeps : {n m : ℕ} {body : Run Value} (i : ℕ) (o : RangeOperator) (a b : Value)
@@ -582,8 +586,8 @@ module _ (n m : ℕ) (here : Activation) (calls_keep : (c : Called) (xs : List V
   cut_out_keeps t start end =
       cond_keeps (is_outside (length t) start) (raise_keeps (text_index start))
       (cond_keeps (is_outside (length t) end) (raise_keeps (text_index end))
-       (cond_keeps (int_lt end start) (raise_keeps (text_index start))
-        (gives (v.text (units_between (length t) start end t)))))
+      (cond_keeps (int_lt end start) (raise_keeps (text_index start))
+      (gives (v.text (units_between (length t) start end t)))))
 
   substring_keeps : (x : Value) (xs : List Value) → Keeps n m (substring x xs)
   substring_keeps x [] = unfit_keeps

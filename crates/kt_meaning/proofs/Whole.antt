@@ -1,21 +1,21 @@
 -- Bodies keep what code keeps; so each course of a unit is whole, and the bound on calls and loops is never met.
-use Rattle.std.proofs.Common.{◌≡◌, ◌≤◌, ◌+◌, ℕ, zero, suc, Bool, true, false, List, [], ◌∷◌, ◌++◌, Option, Some, None, length, refl, sym, subst, ap, arith, not}
+use Rattle.std.proofs.Common.{◌≡◌, ◌≤◌, ℕ, zero, suc, true, List, [], ◌∷◌, ◌++◌, Option, Some, None, length, refl, subst, arith, not}
 use Rattle.std.specs.Prelude.{slice_get, is_some}
 use Rattle.kt_base.specs.declared.lumps.Lump.{Lump}
 use Rattle.kt_base.specs.declared.events.Answer.{Answer}
 use Rattle.kt_base.specs.declared.events.Start.{Start}
 use Rattle.kt_base.specs.declared.events.Start.TheVariants as start
-use Rattle.kt_base.specs.Meaning.{Course, IsWhole, next_event}
-use Rattle.kt_typed.specs.Bodies.{FunForm, StatementForm, declare, assign, step, while, do_while, for, evaluate, superclass, initialize, result, end, StatementForms, statements_end, statement_then}
+use Rattle.kt_base.specs.Meaning.{Course}
+use Rattle.kt_typed.specs.Bodies.{superclass, StatementForms, statements_end, statement_then}
 use Rattle.kt_typed.specs.Headers.{ClassParameterForm}
 use Rattle.kt_typed.specs.Order.{lambdas}
 use Rattle.kt_typed.specs.Units.{UnitForm}
 use Rattle.kt_values.specs.Values as v
 use Rattle.kt_values.specs.Values.{Value, listed}
-use Rattle.kt_values.specs.Runs.{World, Store, Stop, turns_spent, numbers_spent, asks, unfit, bound_met, Gives, gave, thrown, returned, broken, continued, stopped, Run}
+use Rattle.kt_values.specs.Runs.{World, turns_spent, numbers_spent, asks, unfit, bound_met, Gives, gave, thrown, returned, broken, continued, stopped, Run}
 use Rattle.kt_values.proofs.Keeping.{Kept, IsFine, Keeps, binds, follows, gives, unfit_keeps, or_unfit_keeps, charged_keeps, no_turn_keeps}
 use Rattle.kt_meaning.specs.Activations.{Activation, Callee, Called, of_function, of_member, of_constructor, of_lambda, generated_equals, generated_to_string}
-use Rattle.kt_meaning.specs.Units.{Entered, within, finished, on_own_variables, variables_of, statements_of, runs, stored, all_stored, built_by, builds, function_body, member_body, constructor_body, class_parameters, lambda_receiver, generated, generated_equal, called, calls, main_of, launched, run_from, fresh, course_of, direct}
+use Rattle.kt_meaning.specs.Units.{Entered, within, finished, on_own_variables, variables_of, statements_of, runs, stored, all_stored, built_by, builds, function_body, member_body, constructor_body, class_parameters, lambda_receiver, generated, generated_equal, called, calls, main_of, launched, run_from, fresh, course_of}
 use Rattle.kt_meaning.specs.Laws.{CoursesAreWhole, BoundIsNeverMet}
 use Rattle.kt_meaning.proofs.KeepingParts.{reflexive, initialized_keeps, data_equal_keeps, data_text_keeps, imported_keeps}
 use Rattle.kt_meaning.proofs.KeepingEval.{acts_keep, act_keeps}
@@ -36,8 +36,8 @@ own_keeps : {n m : ℕ} (variables : List Value) {code : Run (Unit {0})}
 own_keeps {n} variables {code} h =
     record {
       each = λ k le s w.
-        finished_fine n k s.variables (code (record s { variables = variables }))
-        (h.each k le (record s { variables = variables }) w);
+          finished_fine n k s.variables (code (record s { variables = variables }))
+          (h.each k le (record s { variables = variables }) w);
     }
 
 -- all further calls keep it
