@@ -21,7 +21,8 @@ use Rattle.kt_meaning.specs.Eval.{is_null_literal, compares_null, value_of, valu
 use Rattle.kt_meaning.proofs.KeepingParts as parts
 use Rattle.kt_meaning.proofs.KeepingParts.{cast_keeps, asserted_keeps, read_local_keeps, read_captured_keeps, set_local_keeps, declared_keeps, lambda_keeps, read_property_keeps, element_keeps, read_place_keeps, write_place_keeps, branch_keeps, unless_null_keeps, while_loop_keeps, do_loop_keeps, over_range_keeps, caught_keeps, with_last_keeps, breaks_keeps, continues_keeps, joined_keeps, reflexive}
 
-module _ (n : ℕ) (here : Activation) (calls_keep : (c : Called) (xs : List Value) → Keeps n here.bound (here.call c xs)) where
+module _ (n : ℕ) (here : Activation) (calls_keep : (c : Called) (xs : List Value) → Keeps n here.bound
+    (here.call c xs)) where
   mutual
     pub value_keeps : (e : ExpressionForm) → Keeps n here.bound (value_of here e)
     value_keeps (literal t l) = gives (literal_value l)

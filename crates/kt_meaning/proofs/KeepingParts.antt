@@ -70,7 +70,8 @@ cast_result_keeps true or_null x = gives x
 cast_result_keeps false true x = gives v.null
 cast_result_keeps false false x = raise_keeps failed_cast
 
-pub cast_keeps : {n m : ℕ} (u : UnitForm) (or_null : Bool) (t : TypeForm) (x : Value) → Keeps n m (cast_to u or_null t x)
+pub cast_keeps : {n m : ℕ} (u : UnitForm) (or_null : Bool) (t : TypeForm) (x : Value)
+    → Keeps n m (cast_to u or_null t x)
 cast_keeps u or_null t x = cast_result_keeps (is_of u t x) or_null x
 
 pub asserted_keeps : {n m : ℕ} (x : Value) → Keeps n m (asserted x)
@@ -124,7 +125,8 @@ captured_from_keeps here (source.Captured i) = or_unfit_keeps (slice_get here.ca
 captured_all_keeps : {n m : ℕ} (here : Activation) (cs : List CaptureForm) → Keeps n m (captured_all here cs)
 captured_all_keeps here [] = gives []
 captured_all_keeps here (c ∷ cs) =
-    binds (captured_from_keeps here c.source) (λ first. binds (captured_all_keeps here cs) (λ rest. gives (first ∷ rest)))
+    binds (captured_from_keeps here c.source) (λ first. binds (captured_all_keeps here cs)
+    (λ rest. gives (first ∷ rest)))
 
 pub lambda_keeps : {n m : ℕ} (here : Activation) (i : ℕ) (f : FunForm) → Keeps n m (lambda_value here i f)
 lambda_keeps here i (fun at suspends captures parameters locals result statements) =
@@ -187,8 +189,10 @@ read_property_keeps u property.Size x = size_keeps x
 read_property_keeps u property.Length x = or_unfit_keeps _
 read_property_keeps u property.Code x = or_unfit_keeps _
 
-write_property_keeps : {n m : ℕ} (u : UnitForm) (p : TypedProperty) (x new : Value) → Keeps n m (write_property u p x new)
-write_property_keeps u (property.Declared c place) x new = binds (or_unfit_keeps _) (λ slot. write_slot_keeps x slot new)
+write_property_keeps : {n m : ℕ} (u : UnitForm) (p : TypedProperty) (x new : Value)
+    → Keeps n m (write_property u p x new)
+write_property_keeps u (property.Declared c place) x new =
+    binds (or_unfit_keeps _) (λ slot. write_slot_keeps x slot new)
 write_property_keeps u _ x new = unfit_keeps
 
 or_raise_keeps : {A : Type 0} {n m : ℕ} (o : Option A) (fault : Fault) → Keeps n m (or_raise o fault)
@@ -208,7 +212,8 @@ element_keeps x y = binds (or_unfit_keeps (as_int y)) (element_at_keeps x)
 
 put_at_keeps : {n m : ℕ} (x : Value) (i : ℤ) (new : Value) → Keeps n m (put_at x i new)
 put_at_keeps x i new =
-    binds (object_at_keeps x) (λ o. binds (or_raise_keeps (index_in o.slots i) (array_index i)) (λ slot. write_slot_keeps x slot new))
+    binds (object_at_keeps x) (λ o. binds (or_raise_keeps (index_in o.slots i) (array_index i))
+    (λ slot. write_slot_keeps x slot new))
 
 put_element_keeps : {n m : ℕ} (x y new : Value) → Keeps n m (put_element x y new)
 put_element_keeps (v.reference numbers place) y new =
@@ -268,7 +273,8 @@ unfolding while_loop
 while_loop_keeps zero le h f = no_turn_keeps _
 while_loop_keeps {m = m} (suc j) le h f =
     let less : j ≤ m = omega (arith, le) in
-    charged_keeps (while_true_keeps (restrict j less h) (after_turn_keeps (restrict j less f) (while_loop_keeps j less h f)))
+    charged_keeps (while_true_keeps (restrict j less h)
+    (after_turn_keeps (restrict j less f) (while_loop_keeps j less h f)))
 
 pub do_loop_keeps : {n m : ℕ} {body test : Run Value} (j : ℕ) → j ≤ m
     → Keeps n m body → Keeps n m test → Keeps n j (do_loop j body test)
@@ -276,7 +282,8 @@ unfolding do_loop
 do_loop_keeps zero le h f = no_turn_keeps _
 do_loop_keeps {m = m} (suc j) le h f =
     let less : j ≤ m = omega (arith, le) in
-    charged_keeps (after_turn_keeps (restrict j less h) (while_true_keeps (restrict j less f) (do_loop_keeps j less h f)))
+    charged_keeps (after_turn_keeps (restrict j less h)
+    (while_true_keeps (restrict j less f) (do_loop_keeps j less h f)))
 
 for_loop_keeps : {n m : ℕ} {body : Run Value} (as_value : ℤ → Value) (i : ℕ) (last : ℤ) (j : ℕ) (first : ℤ) → j ≤ m
     → Keeps n m body → Keeps n j (for_loop j as_value i first last body)
@@ -300,7 +307,8 @@ over_range_keeps i o _ _ h = unfit_keeps
 -- `try`.
 
 caught_fine : (n k : ℕ) (g : Gives Value) (catches : Value → Run Value)
-    → IsFine n k g → ((x : Value) (s : Store) → Kept n k s.world → IsFine n k (catches x s)) → IsFine n k (or_caught g catches)
+    → IsFine n k g → ((x : Value) (s : Store) → Kept n k s.world → IsFine n k (catches x s))
+    → IsFine n k (or_caught g catches)
 caught_fine n k (gave x s) catches h f = h
 caught_fine n k (thrown x s) catches h f = f x s h
 caught_fine n k (returned x s) catches h f = h
@@ -322,7 +330,8 @@ last_fine n k (broken s) last h f = then_fine n k (last s) (λ ignored s. broken
 last_fine n k (continued s) last h f = then_fine n k (last s) (λ ignored s. continued s) (f s h) (λ a s w. w)
 last_fine n k (stopped why w) last h f = h
 
-pub with_last_keeps : {n m : ℕ} {body last : Run Value} → Keeps n m body → Keeps n m last → Keeps n m (with_last body last)
+pub with_last_keeps : {n m : ℕ} {body last : Run Value} → Keeps n m body → Keeps n m last
+    → Keeps n m (with_last body last)
 with_last_keeps {n} {body} {last} h f =
     record { each = λ k le s w. last_fine n k (body s) last (h.each k le s w) (f.each k le) }
 
@@ -360,7 +369,8 @@ module _ (n m : ℕ) (here : Activation) (calls_keep : (c : Called) (xs : List V
 
   concatenated_keeps : (x y : Value) → Keeps n m (concatenated here x y)
   concatenated_keeps x y =
-      binds (text_of_keeps x) (λ t. binds (text_of_keeps y) (λ u. binds (joined_keeps t u) (λ whole. gives (v.text whole))))
+      binds (text_of_keeps x) (λ t. binds (text_of_keeps y)
+      (λ u. binds (joined_keeps t u) (λ whole. gives (v.text whole))))
 
   put_properties_keeps : (x : Value) (done before : List ℕ) (slot : ℕ) (ps : List PropertyForm)
       → Keeps n m (put_properties here x done before slot ps)
@@ -412,7 +422,8 @@ module _ (n m : ℕ) (here : Activation) (calls_keep : (c : Called) (xs : List V
   pub data_equal_keeps : (d : ℕ) (x y : Value) → Keeps n m (data_equal here d x y)
   data_equal_keeps d x (v.reference (instance e) place) =
       cond_keeps (d == e)
-      (properties_equal_keeps x (v.reference (instance e) place) (c.first_slot here.unit d) (c.data_properties here.unit d))
+      (properties_equal_keeps x (v.reference (instance e) place) (c.first_slot here.unit d)
+      (c.data_properties here.unit d))
       (gives false)
   data_equal_keeps d x _ = gives false
 
@@ -597,7 +608,8 @@ module _ (n m : ℕ) (here : Activation) (calls_keep : (c : Called) (xs : List V
       binds (or_unfit_keeps (as_int end)) (λ j. cut_out_keeps t i j)))
   substring_keeps x (y ∷ z ∷ w ∷ xs) = unfit_keeps
 
-  pub call_built_in_on_keeps : (b : BuiltInMethod) (x : Value) (xs : List Value) → Keeps n m (call_built_in_on here b x xs)
+  pub call_built_in_on_keeps : (b : BuiltInMethod) (x : Value) (xs : List Value)
+      → Keeps n m (call_built_in_on here b x xs)
   call_built_in_on_keeps method.Resume x xs = resumed_keeps fate.Value x xs
   call_built_in_on_keeps method.ResumeWithException x xs = resumed_keeps fate.Thrown x xs
   call_built_in_on_keeps method.Substring x xs = substring_keeps x xs

@@ -47,7 +47,8 @@ abbrev lambda : ℕ → List CaptureForm → List StatementForm → ExpressionFo
 lambda n captures ss = e.lambda lambda_type n (e.fun at false captures 0 [] unit_type (statements_of ss))
 
 abbrev called : ℕ → StatementForm
-called f = e.evaluate at (e.call unit_type (e.call_of (e.value (e.local lambda_type f) true) [] e.expressions_end false at))
+called f =
+    e.evaluate at (e.call unit_type (e.call_of (e.value (e.local lambda_type f) true) [] e.expressions_end false at))
 
 -- var n = 1; val f: () -> Unit = { n = n + 1 }; f(); f(); println(n)
 abbrev shared : UnitForm
@@ -82,7 +83,8 @@ early_ends :
     (answer.Number 1 ∷ answer.Won ∷ answer.Outcome (fate.Value (node.Int (pos 5) ∷ [])) ∷ answer.Done ∷ [])
     ≡ record {
       events =
-          event.Draw ∷ event.Resume 1 (fate.Value (node.Int (pos 5) ∷ [])) ∷ event.Await 1 ∷ event.Print (codes "5") ∷ [];
+          event.Draw ∷ event.Resume 1 (fate.Value (node.Int (pos 5) ∷ [])) ∷ event.Await 1 ∷ event.Print
+          (codes "5") ∷ [];
       end = Some the_end.Returned;
     }
 unfolding calls digits exported throwable_names
@@ -135,7 +137,8 @@ abbrev point_type : TypeForm
 point_type = simple (constructor.Class 12)
 
 abbrev point : ExpressionForm
-point = e.call point_type (e.call_of (e.constructor_of 12) [] (expressions_of (int (pos 1) ∷ int (pos 2) ∷ [])) false at)
+point =
+    e.call point_type (e.call_of (e.constructor_of 12) [] (expressions_of (int (pos 1) ∷ int (pos 2) ∷ [])) false at)
 
 abbrev points : UnitForm
 points =

@@ -70,9 +70,11 @@ built_by_keeps n here h f (statement_then s rest) = follows f (acts_keep n here 
 builds_keeps : (n : ℕ) (e : Entered) (ps : List ClassParameterForm) (xs : List Value)
     → CallsKeep n e.here.bound e.here.call → Keeps n e.here.bound (builds e ps xs)
 builds_keeps n e ps xs h =
-    own_keeps (variables_of e.body xs) (built_by_keeps n e.here h (all_stored_keeps n e.here h ps xs) (statements_of e.body))
+    own_keeps (variables_of e.body xs) (built_by_keeps n e.here h (all_stored_keeps n e.here h ps xs)
+    (statements_of e.body))
 
-generated_equal_keeps : (n : ℕ) (here : Activation) → CallsKeep n here.bound here.call → (d : ℕ) (x : Value) (xs : List Value)
+generated_equal_keeps : (n : ℕ) (here : Activation) → CallsKeep n here.bound here.call
+    → (d : ℕ) (x : Value) (xs : List Value)
     → Keeps n here.bound (generated_equal here d x xs)
 generated_equal_keeps n here h d x [] = unfit_keeps
 generated_equal_keeps n here h d x (y ∷ []) =
@@ -146,7 +148,8 @@ course_whole n k u (stopped bound_met w) h = absurd h
 
 pub courses_are_whole : CoursesAreWhole
 courses_are_whole u turns begin answers =
-    course_whole (length answers) turns u (run_from u turns begin (fresh answers turns)) (run_fine u turns begin answers)
+    course_whole (length answers) turns u (run_from u turns begin (fresh answers turns))
+    (run_fine u turns begin answers)
 
 pub bound_is_never_met : BoundIsNeverMet
 bound_is_never_met u turns begin answers w is =

@@ -30,7 +30,8 @@ is_interface u c =
 
 -- the superclass: the one declared supertype that is no interface
 abbrev pub superclass_of : UnitForm → ℕ → Option ℕ
-superclass_of u c = option_map (λ s. s.class) (find (λ s. not (is_interface u s.class)) (supers_of u.headers.hierarchy c))
+superclass_of u c =
+    option_map (λ s. s.class) (find (λ s. not (is_interface u s.class)) (supers_of u.headers.hierarchy c))
 
 -- a throwable that every file has
 abbrev pub is_built_in : ℕ → Bool
