@@ -22,7 +22,9 @@ use Rattle.kt_meaning.proofs.Trees.{at, int_type, text_type, no_type, int, null,
 
 -- println(2 + 3 * 4)
 abbrev sum : UnitForm
-sum = main [] (println (calculated arithmetic.Plus (int (pos 2)) (calculated arithmetic.Times (int (pos 3)) (int (pos 4)))) ∷ [])
+sum =
+    main [] (println (calculated arithmetic.Plus (int (pos 2))
+    (calculated arithmetic.Times (int (pos 3)) (int (pos 4)))) ∷ [])
 
 sum_ends : direct sum 10 start.Main (answer.Done ∷ []) ≡ ends (codes "14" ∷ []) the_end.Returned
 unfolding calls digits

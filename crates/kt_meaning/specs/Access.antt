@@ -22,8 +22,10 @@ abbrev pub object_at : Value → Run Object
 object_at x s = or_unfit (object_of s.heap x) s
 
 abbrev pub size_of : Value → Run Value
-size_of (v.reference numbers place) = object_at (v.reference numbers place) >>= λ o. give (v.int (count_as_int (length o.slots)))
-size_of (v.reference elements place) = object_at (v.reference elements place) >>= λ o. give (v.int (count_as_int (length o.slots)))
+size_of (v.reference numbers place) =
+    object_at (v.reference numbers place) >>= λ o. give (v.int (count_as_int (length o.slots)))
+size_of (v.reference elements place) =
+    object_at (v.reference elements place) >>= λ o. give (v.int (count_as_int (length o.slots)))
 size_of _ = or_unfit None
 
 abbrev pub entry_name_of : UnitForm → Value → Option Value

@@ -1,4 +1,5 @@
--- Assignments (Kotlin specification, "Assignments"): what is assigned to, with its receiver and its index evaluated once.
+-- Assignments (Kotlin specification, "Assignments"): what is assigned to, with its receiver and its index evaluated
+-- once.
 use Rattle.std.specs.Prelude.{ℕ}
 use Rattle.kt_typed.specs.declared.operators.TypedProperty.{TypedProperty}
 use Rattle.kt_values.specs.Values.{Value}

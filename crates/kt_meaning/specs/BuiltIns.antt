@@ -1,5 +1,5 @@
--- The functions that every file has, and coroutines (KEEP coroutines, "Suspending functions"). Each event is asked of the
--- world round the coroutine.
+-- The functions that every file has, and coroutines (KEEP coroutines, "Suspending functions"). Each event is asked
+-- of the world round the coroutine.
 use Rattle.std.specs.Prelude.{ℕ, ◌-◌, ℤ, pos, negsuc, Bool, true, cond, List, [], ◌∷◌, length, take, drop, replicate, Option, Some, None, nat_lt, int_lt}
 use Rattle.std.specs.Int.{w32, w64, int_bit_not}
 use Rattle.kt_base.specs.declared.lumps.Lump.{Lump}

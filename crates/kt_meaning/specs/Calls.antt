@@ -1,5 +1,5 @@
--- Calls (Kotlin specification, "Call and property access expressions"): the receiver first, then the arguments from left
--- to right. Entering a body takes a turn.
+-- Calls (Kotlin specification, "Call and property access expressions"): the receiver first, then the arguments from
+-- left to right. Entering a body takes a turn.
 use Rattle.std.specs.Prelude.{ℕ, ◌+◌, Bool, true, false, List, [], ◌∷◌, length, map, Option, Some, None, option_and_then, slice_get}
 use Rattle.kt_typed.specs.Headers.{FunctionForm}
 use Rattle.kt_values.specs.Values as v

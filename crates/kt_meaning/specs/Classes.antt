@@ -1,5 +1,5 @@
 -- What the headers of a unit tell running code of its classes.
-use Rattle.std.specs.Prelude.{ℕ, zero, suc, Bool, true, false, ◌&&◌, ◌||◌, ◌==◌, List, [], ◌∷◌, length, map, drop, reverse, Option, Some, None, option_map, option_and_then, unwrap_or, slice_get, is_some, pos}
+use Rattle.std.specs.Prelude.{ℕ, zero, suc, Bool, true, false, ◌&&◌, ◌||◌, ◌==◌, List, [], ◌∷◌, length, map, drop, reverse, Option, Some, None, option_map, option_and_then, unwrap_or, slice_get, is_some, pos, find, not}
 use Rattle.std.specs.List.{flat_map, list_any, position_from, sum_by}
 use Rattle.std.specs.Cmp.Lexicographic.{pointwise}
 use Rattle.kt_types_tree.specs.declared.types.TypeConstructor.TheVariants as constructor
@@ -19,8 +19,19 @@ same_text = pointwise ◌==◌
 abbrev pub class_at : UnitForm → ℕ → Option ClassForm
 class_at u c = slice_get u.headers.classes c
 
+abbrev pub is_interface_kind : ClassKind → Bool
+is_interface_kind kind.Interface = true
+is_interface_kind _ = false
+
+-- whether a row is an interface
+abbrev pub is_interface : UnitForm → ℕ → Bool
+is_interface u c =
+    unwrap_or (option_map (λ k. is_interface_kind k.kind) (slice_get u.headers.hierarchy.classes c)) false
+
+-- the superclass: the one declared supertype that is no interface
 abbrev pub superclass_of : UnitForm → ℕ → Option ℕ
-superclass_of u c = option_and_then (λ k. k.superclass) (class_at u c)
+superclass_of u c =
+    option_map (λ s. s.class) (find (λ s. not (is_interface u s.class)) (supers_of u.headers.hierarchy c))
 
 -- a throwable that every file has
 abbrev pub is_built_in : ℕ → Bool

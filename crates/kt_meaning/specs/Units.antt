@@ -77,18 +77,14 @@ runs e arguments = on_own_variables (variables_of e.body arguments) (act_all e.h
 -- Constructors (Kotlin specification, "Classifier initialization"): the superclass, then the properties that parameters
 -- declare, then the initialisers in order.
 
-abbrev pub stored : Activation → ClassParameterForm → Option Value → Run (Unit {0})
-stored here p None = stop unfit
-stored here p (Some x) = stored_in here p.property x
-  where
-    stored_in : Activation → Option ℕ → Value → Run (Unit {0})
-    stored_in here None x = give tt
-    stored_in here (Some place) x = initialized here place x
+abbrev pub stored : Activation → Option ℕ → Value → Run (Unit {0})
+stored here None x = give tt
+stored here (Some place) x = initialized here place x
 
 abbrev pub all_stored : Activation → List ClassParameterForm → List Value → Run (Unit {0})
 all_stored here [] arguments = give tt
 all_stored here (p ∷ ps) [] = stop unfit
-all_stored here (p ∷ ps) (x ∷ xs) = stored here p (Some x) >> all_stored here ps xs
+all_stored here (p ∷ ps) (x ∷ xs) = stored here p.property x >> all_stored here ps xs
 
 abbrev pub built_by : Activation → Run (Unit {0}) → StatementForms → Run (Unit {0})
 built_by here store (statement_then (superclass at es) rest) =

@@ -1,5 +1,5 @@
 -- Locals and captures. A captured `var` is an object of one slot, which the variable refers to.
-use Rattle.std.specs.Prelude.{ℕ, Bool, true, false, List, [], ◌∷◌, ◌&&◌, ◌==◌, slice_get, slice_set}
+use Rattle.std.specs.Prelude.{None, ℕ, Bool, true, false, List, [], ◌∷◌, ◌&&◌, ◌==◌, slice_get, slice_set}
 use Rattle.std.specs.List.{list_any}
 use Rattle.kt_typed.specs.declared.operators.CaptureSource.{CaptureSource}
 use Rattle.kt_typed.specs.declared.operators.CaptureSource.TheVariants as source
@@ -37,8 +37,12 @@ write_local n new = local_slot n >>= write_in n new
 abbrev pub read_captured : Activation → ℕ → Run Value
 read_captured here n = or_unfit (slice_get here.captures n) >>= value_in
 
+abbrev pub write_taken : Value → Value → Run (Unit {0})
+write_taken new (v.reference variable place) = write_slot (v.reference variable place) 0 new
+write_taken new _ = or_unfit None
+
 abbrev pub write_captured : Activation → ℕ → Value → Run (Unit {0})
-write_captured here n new = or_unfit (slice_get here.captures n) >>= λ x. write_slot x 0 new
+write_captured here n new = or_unfit (slice_get here.captures n) >>= write_taken new
 
 abbrev pub declare_as : Bool → ℕ → Value → Run (Unit {0})
 declare_as false n first = set_local_slot n first

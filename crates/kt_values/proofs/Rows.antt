@@ -17,7 +17,12 @@ made_is_found heap shape slots = last_found heap (object shape slots)
 
 pub written_is_read : WrittenIsRead
 written_is_read shape first new s =
-    rw (last_found s.heap (object shape (first ∷ [])), last_set s.heap (object shape (first ∷ [])) (object shape (new ∷ [])), last_found s.heap (object shape (new ∷ []))) refl
+    rw (
+      last_found s.heap (object shape (first ∷ [])),
+      last_set s.heap (object shape (first ∷ []))
+          (object shape (new ∷ [])),
+      last_found s.heap (object shape (new ∷ [])),
+    ) refl
 
 pub division_rows : DivisionRows
 division_rows = (refl, refl, refl, refl, refl, refl)

@@ -56,11 +56,11 @@ then_do (continued s) go = continued s
 then_do (stopped why w) go = stopped why w
 
 -- one after the other, the second with what the first gave
-infixl 10 ◌>>=◌
+infixr 10 ◌>>=◌
 abbrev pub ◌>>=◌ : {A B : Type 0} → Run A → (A → Run B) → Run B
 ◌>>=◌ first go = λ s. then_do (first s) go
 
-infixl 10 ◌>>◌
+infixr 10 ◌>>◌
 abbrev pub ◌>>◌ : {A B : Type 0} → Run A → Run B → Run B
 ◌>>◌ first second = λ s. then_do (first s) (λ a. second)
 

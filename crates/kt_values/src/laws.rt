@@ -12,7 +12,8 @@ pub fn written_is_read()
     ensures { WrittenIsRead }
 {}
 
-/// Quotients round towards zero, remainders have the sign of the dividend, and the least number divided by -1 is itself.
+/// Quotients round towards zero, remainders have the sign of the dividend, and the least number divided by -1 is
+/// itself.
 pub fn division_rows()
     ensures { DivisionRows }
 {}
