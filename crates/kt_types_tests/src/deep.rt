@@ -84,6 +84,50 @@ fn ten_thousand_supertypes(rt: HostRuntime) -> Result<(), Fail> {
     Ok(())
 }
 
+/// For each number an interface, and a class below the class before and that interface.
+fn below_class_and_interface(alloc: Global, number: u32) -> Result<Items<Supertype>, NoMemory> {
+    let mut all = Items::new(alloc);
+    if number > 0 && number < 1_000_000 {
+        all.push(supertype(alloc, 2 * number - 1, None)?)?;
+        all.push(supertype(alloc, 2 * number, None)?)?;
+    }
+    Ok(all)
+}
+
+fn chain_with_interfaces(alloc: Global, classes: u32) -> Result<Hierarchy, NoMemory> {
+    let mut headers = Items::new(alloc);
+    for number in 0..classes {
+        headers.push(header(ClassKind::Interface, 0, Items::new(alloc)))?;
+        headers.push(header(
+            ClassKind::Class,
+            0,
+            below_class_and_interface(alloc, number)?,
+        ))?;
+    }
+    Ok(Hierarchy {
+        classes: headers,
+        bounds: Items::new(alloc),
+    })
+}
+
+/// Whether the last class is below the first, and the first not below the last.
+fn is_last_below_first(alloc: Global, h: &Hierarchy, last: u32) -> Result<bool, NoMemory> {
+    if classes_end(alloc, h)? {
+        let low = KtType::plain(alloc, false, TypeConstructor::Class(last));
+        let high = KtType::plain(alloc, false, TypeConstructor::Class(1));
+        Ok(is_subtype(h, &low, &high) && !is_subtype(h, &high, &low))
+    } else {
+        Ok(false)
+    }
+}
+
+#[test]
+fn interface_at_each_supertype(rt: HostRuntime) -> Result<(), Fail> {
+    let h = chain_with_interfaces(rt.alloc(), 10_000)?;
+    assert!(&rt; is_last_below_first(rt.alloc(), &h, 19_999)?);
+    Ok(())
+}
+
 #[test]
 fn forty_layers(rt: HostRuntime) -> Result<(), Fail> {
     let h = layers(rt.alloc(), 40)?;
