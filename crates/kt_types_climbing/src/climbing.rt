@@ -9,6 +9,7 @@ ghost use Rattle.kt_types_tree.specs.Types.{forms_of, type_form};
 ghost use Rattle.std.specs.Prelude.{◌≡◌, ◌↔◌, ◌∷◌, IsTrue, map};
 
 use crate::environment::Environment;
+use crate::straight::straight_up;
 use crate::walk::{Ahead, Behind, ahead_of, is_met, is_one};
 use kt_types_tree::{Hierarchy, KtType, Supertype};
 
@@ -87,10 +88,8 @@ fn climbs_by(
     }
 }
 
-/// Whether a class with its arguments is the wanted one with the others, or has it above it.
-///
-/// The way up is followed once from each class with its arguments. No memory is taken.
-pub fn climbs(
+/// The same of a class with its arguments.
+fn climbs_at(
     h: &Hierarchy,
     class: u32,
     arguments: &[KtType],
@@ -107,4 +106,24 @@ pub fn climbs(
     let inner = Environment::Under(arguments, &top);
     let ahead = Ahead::These(h.supertypes_of(class), &inner, &Ahead::Nothing);
     climbs_from(h, &ahead, &Behind::Nobody, wanted, others)
+}
+
+/// Whether a class with its arguments is the wanted one with the others, or has it above it.
+///
+/// The way up is followed once from each class with its arguments. No memory is taken, and a way up from a class
+/// without arguments on which one supertype alone leads on takes no stack.
+pub fn climbs(
+    h: &Hierarchy,
+    class: u32,
+    arguments: &[KtType],
+    wanted: u32,
+    others: &[KtType],
+) -> bool
+    requires classes { ClassesEnd (hierarchy_form h.now) }
+    ensures { IsTrue result ↔ Climbs (hierarchy_form h.now) class (forms_of (map type_form arguments.now)) wanted (forms_of (map type_form others.now)) }
+{
+    match arguments {
+        [] => climbs_at(h, straight_up(h, class, wanted), arguments, wanted, others),
+        _ => climbs_at(h, class, arguments, wanted, others),
+    }
 }

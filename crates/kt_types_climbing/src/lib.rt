@@ -6,4 +6,5 @@
 pub mod climbing;
 pub mod environment;
 pub mod reading;
+pub mod straight;
 pub mod walk;
