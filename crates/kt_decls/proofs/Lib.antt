@@ -1,1 +1,3 @@
 mod PlainFiles
+mod WithinBounds
+mod PlainHeaders

@@ -50,7 +50,7 @@ rows_plainly ds plain =
     ap (λ rs. map throwable_row throwables ++ rs) (no_rows ds [] ds plain) ∙ behind_nothing (map throwable_row throwables)
 
 -- no class has type parameters
-pub HasNoParameters : HierarchyForm → Type 0
+abbrev pub HasNoParameters : HierarchyForm → Type 0
 HasNoParameters h = (row : ℕ) (c : HeaderForm) → slice_get h.classes row ≡ Some c → c.parameters ≡ 0
 
 none_at : (all : List Row) (k : ℕ) (ts : List BuiltInThrowable) (row : ℕ) (c : HeaderForm) → slice_get (row_headers all k (map throwable_row ts)) row ≡ Some c → c.parameters ≡ 0
@@ -60,6 +60,5 @@ none_at all k (t ∷ ts) zero c e = cc
 none_at all k (t ∷ ts) (suc row) c e = none_at all (k + 1) ts row c e
 
 pub no_parameters : (ds : List DeclarationTree) → ArePlain ds → HasNoParameters (hierarchy_of ds)
-unfolding HasNoParameters
 no_parameters ds plain row c e =
     none_at (rows ds) 0 throwables row c (ap (λ rs. slice_get (row_headers (rows ds) 0 rs) row) (sym (rows_plainly ds plain)) ∙ e)
