@@ -1,3 +1,4 @@
+pub mod DescriptorKinds
 pub mod Found
 pub mod Ordered
 pub mod PoolAgain

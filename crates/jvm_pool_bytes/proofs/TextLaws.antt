@@ -1,5 +1,5 @@
 -- A text that is read is spelled so, and what is spelled is read.
-use Rattle.std.proofs.Common.{◌≡◌, ℕ, zero, suc, ◌+◌, ◌^◌, ◌<◌, ◌≤◌, Bool, false, cond, ltb, List, [], ◌∷◌, ◌++◌, length, length-append, take, drop, Option, Some, None, option_map, Ok, Err, refl, sym, ap, subst, ◌∙◌, arith}
+use Rattle.std.proofs.Common.{◌≡◌, ℕ, zero, suc, ◌+◌, ◌^◌, ◌<◌, ◌≤◌, Bool, false, cond, ltb, List, [], ◌∷◌, ◌++◌, length, length-append, take, drop, Option, Some, None, option_map, Result, Ok, Err, refl, sym, ap, subst, ◌∙◌, arith}
 use Rattle.std.specs.Int.{w16}
 use Rattle.std.proofs.lemmas.Bool.{ltb-false, le-ltb}
 use Rattle.std.proofs.lemmas.List.{append-nil, take_at, drop_at, take-append-drop, length-take}
@@ -11,7 +11,7 @@ use Rattle.jvm_pool.specs.ModifiedReading.{first_unit}
 use Rattle.jvm_pool.proofs.Units.{first_unit_takes, first_unit_again}
 use Rattle.jvm_pool.proofs.Texts.{first_of_text}
 use Rattle.jvm_pieces.specs.Pieces.{Bytes}
-use Rattle.jvm_class_formats.specs.Formats.{Spot, spot, any, u2, seq}
+use Rattle.jvm_class_formats.specs.Formats.{Spot, spot, here, any, u2, seq}
 use Rattle.jvm_class_formats.specs.Lawful.{Takes, Lawful}
 use Rattle.jvm_class_formats.proofs.Steps.{unless_ok, done, done_is, some_is, bytes_behind, half}
 use Rattle.jvm_class_formats.proofs.Parts.{lawful_number, lawful_seq, lawful_as}
@@ -117,3 +117,43 @@ module _ (es : List Entry) where
       (λ x allowed.
       ap (λ (n : ℕ). (n, x.1)) allowed.1.1)
       (lawful_seq es u2 chars (lawful_number es w16 any half) (λ n _. lawful_chars n))
+
+-- ---- what a reader of texts finds
+
+pub text_found : (n : ℕ) (bytes t : List ℕ) → IsText t → bytes ≡ modified t → length bytes ≤ n → text_of n bytes ≡ Some t
+text_found n bytes t fits is le = text_again n t bytes is fits le
+
+pub no_text : (n : ℕ) (bytes : List ℕ) → ((t : List ℕ) → IsText t → bytes ≡ modified t → ⊥) → text_of n bytes ≡ None
+no_text n bytes none = by (text_of n bytes) refl
+  where
+    by : (o : Option (List ℕ)) → text_of n bytes ≡ o → text_of n bytes ≡ None
+    by None is = is
+    by (Some t) is = let p = text_takes n bytes t is in absurd (none t p.0 p.1)
+
+module _ (s : Spot) (total counter : ℕ) (bytes : List ℕ) (is : spot total counter bytes ≡ s) where
+  pub chars_read : (u : Spot) (n : ℕ) (front back t : List ℕ) → n ≤ length bytes → front ≡ take n bytes
+      → back ≡ drop n bytes → IsText t → front ≡ modified t → u ≡ spot total counter back → (chars n).read s ≡ Ok (t, u)
+  chars_read u n front back t enough first rest fits same at =
+      let long : ltb (length bytes) n ≡ false = le-ltb (length bytes) n enough in
+      let read : text_of n (take n bytes) ≡ Some t =
+      text_found n (take n bytes) t fits (sym first ∙ same) (omega (arith, length-take n bytes)) in
+      ap (λ (y : Spot). (chars n).read y) (sym is)
+      ∙ ap (λ (b : Bool). cond b (Err total) (spelled_text (spot total counter bytes) n (text_of n (take n bytes)))) long
+      ∙ ap (spelled_text (spot total counter bytes) n) read
+      ∙ ap (λ (l : List ℕ). done {A = List ℕ × Spot} (t, spot total counter l)) (sym rest)
+      ∙ ap (λ (v : Spot). done {A = List ℕ × Spot} (t, v)) (sym at)
+
+  abbrev refused : ℕ → Result (List ℕ × Spot) ℕ
+  refused k = Err k
+
+  pub chars_bad : (n at : ℕ) (front : List ℕ) → n ≤ length bytes → front ≡ take n bytes
+      → ((t : List ℕ) → IsText t → front ≡ modified t → ⊥) → at ≡ here s → (chars n).read s ≡ Err at
+  chars_bad n at front enough first none place =
+      let long : ltb (length bytes) n ≡ false = le-ltb (length bytes) n enough in
+      let read : text_of n (take n bytes) ≡ None =
+      no_text n (take n bytes) (λ t fits same. none t fits (first ∙ same)) in
+      ap (λ (y : Spot). (chars n).read y) (sym is)
+      ∙ ap (λ (b : Bool). cond b (Err total) (spelled_text (spot total counter bytes) n (text_of n (take n bytes)))) long
+      ∙ ap (spelled_text (spot total counter bytes) n) read
+      ∙ ap (λ (y : Spot). refused (here y)) is
+      ∙ ap (λ (k : ℕ). refused k) (sym place)

@@ -110,10 +110,22 @@ is_some_tag (Some t) = true
 abbrev pub is_tag : ℕ → Bool
 is_tag n = is_some_tag (tag_of_number n)
 
--- an entry is one item: its tag, and what stands behind it
+-- a tag, and what stands behind it
+abbrev pub unplaced : Format RawEntry
+unplaced = as_named (λ x. x.1) (λ r. (tag_number (raw_tag r), r))
+    (seq (number w8 is_tag) (λ n. behind_tag (tag_of_number n)))
+
+-- an entry is one item
 abbrev pub raw_entry : Format RawEntry
-raw_entry = item (as_named (λ x. x.1) (λ r. (tag_number (raw_tag r), r))
-    (seq (number w8 is_tag) (λ n. behind_tag (tag_of_number n))))
+raw_entry = item unplaced
+
+-- a tag behind which two indices stand
+abbrev pub HasTwo : Tag → Type 0
+HasTwo tag.Field = Unit {0}
+HasTwo tag.Method = Unit {0}
+HasTwo tag.InterfaceMethod = Unit {0}
+HasTwo tag.NameAndType = Unit {0}
+HasTwo _ = ⊥
 
 -- ---- the entries, one behind the other
 

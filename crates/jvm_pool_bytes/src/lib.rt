@@ -3,6 +3,7 @@
 
 pub mod laws;
 pub mod raws;
+pub mod reading;
 pub mod tags;
 pub mod writing;
 
