@@ -1,12 +1,9 @@
 -- At most one: what gives at most one typing, and the steps of which rules are made.
-use Rattle.std.proofs.Common.{ℕ, List, [], ◌∷◌, Option, Some, None, ◌≡◌, refl, ap, ◌∙◌, sym, subst, Bool, true, false, ◌⊎◌, inl, inr}
+use Rattle.std.proofs.Common.{List, [], ◌∷◌, Option, Some, None, ◌≡◌, refl, ap, ◌∙◌, sym, subst, Bool, inl, inr}
 use Rattle.std.specs.Prelude.{find}
-use Rattle.kt_types_tree.specs.Types.{TypeForm}
 use Rattle.kt_typed.specs.Bodies.{ExpressionForm}
-use Rattle.kt_types_order.specs.Below.{IsBelow}
-use Rattle.kt_check_rules.specs.Kinds.{type_of}
-use Rattle.kt_check_rules.specs.Choices.{IsFirst, first_of}
-use Rattle.kt_check_rules.specs.States.{Context, State, hierarchy}
+use Rattle.kt_check_rules.specs.Choices.{IsFirst}
+use Rattle.kt_check_rules.specs.States.{Context, State}
 use Rattle.kt_check_rules.specs.Typings.{Rule, Use, unused, as_value, meeting, Takes, IsTyped, IsChosen, GivesOne, GivesIf, GivesSome, IsNone, IsThen}
 
 -- from the same place and for the same use

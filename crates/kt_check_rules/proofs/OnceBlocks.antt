@@ -1,15 +1,14 @@
 -- Blocks and branches have at most one typing where their parts have.
-use Rattle.std.proofs.Common.{ℕ, List, [], ◌∷◌, ◌++◌, Option, Some, None, ◌≡◌, refl, ap, ◌∙◌, sym, subst, Bool}
+use Rattle.std.proofs.Common.{List, [], ◌∷◌, Option, ◌≡◌, refl, ap, ◌∙◌, sym, subst, Bool}
 use Rattle.kt_base.specs.declared.refusals.Pos.{Pos}
 use Rattle.kt_types_tree.specs.Types.{TypeForm}
 use Rattle.kt_flow.specs.Facts.{FactsForm}
-use Rattle.kt_typed.specs.Bodies.{ExpressionForm, MaybeExpression, EntryForm, EntryForms, entries_of, ConditionForm, BlockForm, MaybeBlock, StatementForm, evaluate, some_expression}
+use Rattle.kt_typed.specs.Bodies.{ExpressionForm, MaybeExpression, EntryForm, EntryForms, ConditionForm, MaybeBlock, StatementForm, evaluate, some_expression}
 use Rattle.kt_check_rules.specs.Choices.{pairs}
-use Rattle.kt_check_rules.specs.Kinds.{unit_type}
 use Rattle.kt_check_rules.specs.States.{Context, State, Path, hierarchy}
-use Rattle.kt_check_rules.specs.Typings.{Rule, StatementRule, BlockRule, Use, unused, as_value, meeting, IsTyped, GivesOne}
-use Rattle.kt_check_rules.specs.Operators.{AreComparable, HasType}
-use Rattle.kt_check_rules.specs.Conditionals.{LinesRule, NoLines, LineThen, Evaluations, Values, LastLine, Blocks, HasBranchType, ElseRule, NoElse, Else, Ifs, ConditionRule, Equals, Holds, Conditions, OfTypes, TypeConditions, ConditionsRule, NoConditions, ConditionThen, EntriesRule, NoEntries, EntryThen, WhenRest, Whens, WhensWithout, shown_subject, no_subject}
+use Rattle.kt_check_rules.specs.Typings.{Rule, StatementRule, BlockRule, Use, unused, as_value, meeting}
+use Rattle.kt_check_rules.specs.Operators.{AreComparable}
+use Rattle.kt_check_rules.specs.Conditionals.{LinesRule, NoLines, LineThen, Evaluations, Values, LastLine, Blocks, HasBranchType, ElseRule, NoElse, Else, Ifs, ConditionRule, Equals, Holds, Conditions, TypeConditions, ConditionsRule, NoConditions, ConditionThen, EntriesRule, NoEntries, EntryThen, WhenRest, Whens, WhensWithout, shown_subject, no_subject}
 use Rattle.kt_check_rules.proofs.Once.{OnceFor, OnceAt, once, once_at, first_once_of, same_some, gives_one, typed_once}
 use Rattle.kt_check_rules.proofs.OnceOperators.{type_once}
 

@@ -1,15 +1,12 @@
 -- A file has at most one typed unit.
-use Rattle.std.proofs.Common.{ℕ, List, [], ◌∷◌, Option, Some, None, ◌≡◌, refl, ap, ◌∙◌, sym, subst, Bool}
-use Rattle.kt_base.specs.declared.refusals.Pos.{Pos}
-use Rattle.kt_tree.specs.Bodies.{ExpressionTree, StatementTree}
+use Rattle.std.proofs.Common.{List, [], ◌∷◌, ◌≡◌, refl, ◌∙◌, sym, Bool}
 use Rattle.kt_typed.specs.Headers.{HeadersForm}
-use Rattle.kt_typed.specs.Bodies.{ExpressionForm, StatementForm, FunForm}
+use Rattle.kt_typed.specs.Bodies.{StatementForm, FunForm}
 use Rattle.kt_typed.specs.Units.{UnitForm, ClassBodies}
 use Rattle.kt_check_rules.specs.States.{Context, State}
-use Rattle.kt_check_rules.specs.Typings.{Use}
-use Rattle.kt_check_rules.specs.Rules.{Typed, TypedStatement}
+use Rattle.kt_check_rules.specs.Rules.{Typed}
 use Rattle.kt_check_rules.specs.Bodies.{Direct, statement, value, closing, IsDirect, AreDirects, Body, IsBody, AreBodies}
-use Rattle.kt_check_rules.specs.Units.{File, bodies, IsUnit}
+use Rattle.kt_check_rules.specs.Units.{bodies}
 use Rattle.kt_check_rules.specs.Laws.{OneTyping, OneUnit}
 use Rattle.kt_check_rules.proofs.Once.{once, once_at, typed_once}
 use Rattle.kt_check_rules.proofs.OnceRules as rules

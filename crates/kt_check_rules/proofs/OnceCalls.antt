@@ -1,12 +1,12 @@
 -- Calls have at most one typing where their parts have.
-use Rattle.std.proofs.Common.{ℕ, List, [], ◌∷◌, Option, Some, None, ◌≡◌, refl, ap, ◌∙◌, sym, subst, Bool}
+use Rattle.std.proofs.Common.{ℕ, List, [], ◌∷◌, Option, ◌≡◌, refl, ap, sym, subst, Bool}
 use Rattle.kt_base.specs.declared.refusals.Pos.{Pos}
 use Rattle.kt_tree.specs.Types.{TypeTree}
 use Rattle.kt_typed.specs.Bodies.{ExpressionForm}
 use Rattle.kt_check_rules.specs.States.{Context, State}
-use Rattle.kt_check_rules.specs.Typings.{Rule, Use, as_value, meeting, IsTyped, GivesOne}
+use Rattle.kt_check_rules.specs.Typings.{Rule}
 use Rattle.kt_check_rules.specs.Literals.{can_print}
-use Rattle.kt_check_rules.specs.Calls.{Wanted, of_type, printable, Callable, Argument, ArgumentsRule, NoArguments, MoreArguments, Calls, MethodCalls, called, callable_on}
+use Rattle.kt_check_rules.specs.Calls.{Wanted, of_type, printable, Callable, Argument, ArgumentsRule, NoArguments, MoreArguments, Calls, MethodCalls, callable_on}
 use Rattle.kt_check_rules.proofs.Once.{OnceFor, OnceAt, once, once_at, same_some, gives_one, typed_once, chosen_once, none_once, then_once}
 
 -- for what arguments have to be

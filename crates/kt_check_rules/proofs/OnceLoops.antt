@@ -1,6 +1,5 @@
 -- Loops, assignments and declarations have at most one typing where their parts have.
-use Rattle.std.proofs.Common.{ℕ, List, [], ◌∷◌, ◌++◌, Option, Some, None, ◌≡◌, refl, ap, ◌∙◌, sym, subst, Bool}
-use Rattle.std.specs.Prelude.{IsTrue}
+use Rattle.std.proofs.Common.{ℕ, List, Option, Some, None, ◌≡◌, refl, ap, ◌∙◌, sym, subst, Bool}
 use Rattle.kt_base.specs.declared.refusals.Pos.{Pos}
 use Rattle.kt_tree.specs.declared.bodies.RangeOperator.{RangeOperator}
 use Rattle.kt_tree.specs.declared.bodies.StepOperator.{StepOperator}
@@ -9,16 +8,15 @@ use Rattle.kt_tree.specs.Types.{TypeTree}
 use Rattle.kt_types_tree.specs.Types.{TypeForm}
 use Rattle.kt_typed.specs.declared.operators.TypedOperator.{TypedOperator}
 use Rattle.kt_typed.specs.Operators.{LocalForm}
-use Rattle.kt_typed.specs.Bodies.{ExpressionForm, StatementForm, assign, step, local_target}
-use Rattle.kt_check_rules.specs.Kinds.{type_of, width_of}
-use Rattle.kt_check_rules.specs.States.{Context, State, hierarchy, assigned}
-use Rattle.kt_check_rules.specs.Typings.{Rule, StatementRule, BlockRule, Use, meeting, IsTyped, GivesOne}
+use Rattle.kt_typed.specs.Bodies.{ExpressionForm}
+use Rattle.kt_check_rules.specs.States.{Context, State}
+use Rattle.kt_check_rules.specs.Typings.{Rule, BlockRule, meeting}
 use Rattle.kt_check_rules.specs.Conditionals.{LinesRule}
 use Rattle.kt_check_rules.specs.Loops.{Whiles, DoWhiles, Fors, Breaks, Continues, Returns, BareReturns, noting_break, noting_continue}
-use Rattle.kt_check_rules.specs.Assignments.{NewValue, Combines, IsLocal, LocalAssignments, LocalSteps, IsElement, Element, ElementAssignments, ElementSteps}
+use Rattle.kt_check_rules.specs.Assignments.{NewValue, IsLocal, LocalAssignments, LocalSteps, IsElement, Element, ElementAssignments, ElementSteps}
 use Rattle.kt_check_rules.specs.Statements.{TypedLocals, UntypedLocals, BareLocals, Bare, Initialized}
 use Rattle.kt_check_rules.specs.Rules.{NoStatementRule}
-use Rattle.kt_check_rules.proofs.Once.{OnceFor, OnceAt, once, once_at, same_some, gives_one, typed_once}
+use Rattle.kt_check_rules.proofs.Once.{OnceFor, OnceAt, once, same_some, gives_one, typed_once}
 use Rattle.kt_check_rules.proofs.OnceBlocks.{OnceLines, once_lines}
 
 pub no_statement_rule_once : OnceAt NoStatementRule

@@ -1,7 +1,6 @@
 -- Literals, names, operators and access have at most one typing where their parts have.
-use Rattle.std.proofs.Common.{ℕ, List, [], ◌∷◌, Option, Some, None, ◌≡◌, refl, ap, ◌∙◌, sym, subst, Bool, true, false}
-use Rattle.std.specs.Prelude.{not, IsTrue}
-use Rattle.kt_types_tree.specs.Types.{TypeForm, or_null}
+use Rattle.std.proofs.Common.{ℕ, List, Option, ◌≡◌, refl, ap, ◌∙◌, sym, subst, Bool, true, false}
+use Rattle.kt_types_tree.specs.Types.{TypeForm}
 use Rattle.kt_tree.specs.declared.bodies.BinaryOperator.{BinaryOperator}
 use Rattle.kt_tree.specs.declared.bodies.BinaryOperator.TheVariants as o
 use Rattle.kt_tree.specs.declared.bodies.PrefixOperator.{PrefixOperator}
@@ -10,15 +9,12 @@ use Rattle.kt_tree.specs.declared.bodies.Literal.{Literal}
 use Rattle.kt_tree.specs.declared.bodies.TextPart.{TextPart}
 use Rattle.kt_typed.specs.declared.operators.TypedOperator.{TypedOperator}
 use Rattle.kt_typed.specs.declared.operators.TypedOperator.TheVariants as op
-use Rattle.kt_typed.specs.Bodies.{ExpressionForm, PartForm, printed}
-use Rattle.kt_flow.specs.Facts.{meet}
-use Rattle.kt_check_rules.specs.Choices.{IsFirst, first_some, pairs}
-use Rattle.kt_check_rules.specs.Kinds.{type_of, boolean_type, present_type, IsCommon}
-use Rattle.kt_check_rules.specs.States.{Context, State, hierarchy, with_facts}
-use Rattle.kt_check_rules.specs.Typings.{Rule, Use, unused, as_value, meeting, IsTyped, GivesOne, GivesIf}
+use Rattle.kt_typed.specs.Bodies.{PartForm, printed}
+use Rattle.kt_check_rules.specs.States.{Context, State, hierarchy}
+use Rattle.kt_check_rules.specs.Typings.{Rule, Use, unused, as_value, meeting}
 use Rattle.kt_check_rules.specs.Literals.{Literals, Templates, TextParts, PrintedParts, can_print, literal_of}
-use Rattle.kt_check_rules.specs.Names.{Names, named}
-use Rattle.kt_check_rules.specs.Operators.{Operations, Equalities, Connectives, Elvises, Binaries, Negations, Nots, AreComparable, HasType, after_test, left_use, value_use, applied}
+use Rattle.kt_check_rules.specs.Names.{Names}
+use Rattle.kt_check_rules.specs.Operators.{Operations, Equalities, Connectives, Elvises, Binaries, Negations, Nots, AreComparable, HasType, left_use, value_use}
 use Rattle.kt_check_rules.specs.Access.{TypeTests, Casts, NotNulls, Elements, Members}
 use Rattle.kt_check_rules.specs.Rules.{Prefixes, NoRule}
 use Rattle.kt_check_rules.proofs.Once.{OnceFor, OnceAt, once, once_at, first_once_of, same_some, gives_one, gives_if, gives_some, typed_once, chosen_once}

@@ -1,15 +1,14 @@
 -- A tree has at most one typing.
-use Rattle.std.proofs.Common.{ℕ, List, Option, Some, None, ◌≡◌, refl, Bool}
+use Rattle.std.proofs.Common.{ℕ, List, Option, Bool}
 use Rattle.kt_base.specs.declared.refusals.Pos.{Pos}
 use Rattle.kt_tree.specs.declared.bodies.AssignmentOperator.{AssignmentOperator}
 use Rattle.kt_tree.specs.declared.bodies.StepOperator.{StepOperator}
 use Rattle.kt_tree.specs.Types.{TypeTree}
 use Rattle.kt_tree.specs.Bodies.{ExpressionTree, literal, template, name, this, parenthesized, lambda, prefix, binary, type_check, cast, not_null, member, index, call, if_else, when, try_catch, throw, return, break, continue}
 use Rattle.kt_tree.specs.Bodies.{ExpressionTrees, expressions_end, expression_then, MaybeExpression, no_expression, some_expression, PartTree, text, name_part, this_part, hole, PartTrees, parts_end, part_then}
-use Rattle.kt_tree.specs.Bodies.{EntryTree, entry, EntryTrees, entries_end, entry_then, ConditionTree, equals, of_type, ConditionTrees, conditions_end, condition_then}
+use Rattle.kt_tree.specs.Bodies.{entry, EntryTrees, entries_end, entry_then, ConditionTree, equals, of_type, ConditionTrees, conditions_end, condition_then}
 use Rattle.kt_tree.specs.Bodies.{BodyTree, braces, single, MaybeBody, no_body, some_body, BlockTree, block, StatementTree, local, assign, step, while, do_while, for, evaluate, StatementTrees, statements_end, statement_then}
 use Rattle.kt_check_rules.specs.States.{Context, meaning}
-use Rattle.kt_check_rules.specs.Typings.{Rule}
 use Rattle.kt_check_rules.specs.Literals.{behind_minus}
 use Rattle.kt_check_rules.specs.Names.{Names}
 use Rattle.kt_check_rules.specs.Calls.{callable, count}

@@ -1,14 +1,13 @@
 -- A file is refused at one place at most, and not where it has a typed unit.
-use Rattle.std.proofs.Common.{ℕ, zero, suc, ◌+◌, ◌-◌, ◌≤◌, ◌<◌, arith, List, [], ◌∷◌, Option, Some, None, ◌≡◌, refl, ap, ◌∙◌, sym, subst, length, take, Bool, true, false, inl, inr, ◌⊎◌}
+use Rattle.std.proofs.Common.{ℕ, zero, suc, ◌+◌, ◌-◌, ◌<◌, arith, List, [], ◌∷◌, Some, ◌≡◌, refl, ap, ◌∙◌, sym, length, take, Bool, inl, inr, ◌⊎◌}
 use Rattle.std.specs.Prelude.{slice_get}
 use Rattle.std.proofs.lemmas.Bool.{cases_order}
 use Rattle.kt_base.specs.declared.refusals.Pos.{Pos}
 use Rattle.kt_typed.specs.Bodies.{StatementForm, FunForm}
-use Rattle.kt_typed.specs.Units.{UnitForm}
 use Rattle.kt_check_rules.specs.States.{Context, State}
 use Rattle.kt_check_rules.specs.Bodies.{Direct, AreDirects, Body, IsBody, AreBodies, place_of}
-use Rattle.kt_check_rules.specs.Units.{File, bodies, IsUnit, has_main}
-use Rattle.kt_check_rules.specs.Place.{directs, with_directs, cut, IsFirstDirect, FailsAt, HasNoTyping, IsRefused, at_statement, without_main}
+use Rattle.kt_check_rules.specs.Units.{bodies}
+use Rattle.kt_check_rules.specs.Place.{directs, with_directs, FailsAt, HasNoTyping, at_statement, without_main}
 use Rattle.kt_check_rules.specs.Laws.{OnePlace, NotBoth, CutsHaveTyping}
 
 -- what has a typing has one when it is cut

@@ -1,14 +1,13 @@
 -- Type tests, casts, `!!`, elements and members (Kotlin specification, "Type-checking and containment-checking
 -- expressions", "Cast expressions", "Postfix operator expressions", "Navigation operators").
-use Rattle.std.specs.Prelude.{ℕ, Bool, true, false, List, [], ◌∷◌, codes, Option, Some, None, ◌≡◌, IsTrue, if◌then◌else◌}
+use Rattle.std.specs.Prelude.{ℕ, Bool, true, false, List, codes, Option, Some, None, ◌≡◌, IsTrue}
 use Rattle.kt_types_tree.specs.declared.types.TypeConstructor.TheVariants as c
 use Rattle.kt_types_tree.specs.Types.{TypeForm, typed, of, or_null, forms_end, form_then}
-use Rattle.kt_typed.specs.declared.operators.Width.TheVariants as width
 use Rattle.kt_typed.specs.declared.operators.TypedProperty.{TypedProperty}
 use Rattle.kt_typed.specs.declared.operators.TypedProperty.TheVariants as of_type
 use Rattle.kt_typed.specs.Bodies.{ExpressionForm, type_test, cast, not_null, index, property, ReceiverForm, plain, safe}
 use Rattle.kt_check_rules.specs.Choices.{first_some, pairs}
-use Rattle.kt_check_rules.specs.Kinds.{type_of, int_type, char_type, boolean_type, width_of, without_null, present_type, is_testable}
+use Rattle.kt_check_rules.specs.Kinds.{type_of, int_type, char_type, boolean_type, without_null, present_type, is_testable}
 use Rattle.kt_check_rules.specs.States.{Context, State, hierarchy, is_name}
 use Rattle.kt_check_rules.specs.Typings.{Rule, Use, as_value, IsTyped, GivesOne, GivesIf}
 

@@ -1,5 +1,5 @@
 -- Assignments (Kotlin specification, "Assignments", "Prefix increment expressions" to "Postfix decrement expressions").
-use Rattle.std.specs.Prelude.{ℕ, Bool, true, false, not, List, [], ◌∷◌, slice_get, Option, Some, None, ◌≡◌, ◌&&◌, IsTrue, nat_le, find, if◌then◌else◌}
+use Rattle.std.specs.Prelude.{ℕ, Bool, true, false, not, List, slice_get, Option, Some, None, ◌≡◌, ◌&&◌, IsTrue, nat_le}
 use Rattle.kt_base.specs.declared.refusals.Pos.{Pos}
 use Rattle.kt_tree.specs.declared.bodies.AssignmentOperator.{AssignmentOperator}
 use Rattle.kt_tree.specs.declared.bodies.AssignmentOperator.TheVariants as by
@@ -14,13 +14,13 @@ use Rattle.kt_typed.specs.declared.operators.LocalKind.{LocalKind}
 use Rattle.kt_typed.specs.declared.operators.LocalKind.TheVariants as kind
 use Rattle.kt_typed.specs.declared.operators.TypedOperator.{TypedOperator}
 use Rattle.kt_typed.specs.Operators.{LocalForm}
-use Rattle.kt_typed.specs.Bodies.{ExpressionForm, StatementForm, assign, step, TargetForm, local_target, element_target}
+use Rattle.kt_typed.specs.Bodies.{ExpressionForm, StatementForm, assign, step, local_target, element_target}
 use Rattle.kt_check_rules.specs.Choices.{first_some, pairs, then_on}
 use Rattle.kt_check_rules.specs.Kinds.{type_of, width_of}
 use Rattle.kt_check_rules.specs.States.{Context, State, hierarchy, local_named, assigned}
 use Rattle.kt_check_rules.specs.Operators.{operation}
 use Rattle.kt_check_rules.specs.Access.{element_type, at_int}
-use Rattle.kt_check_rules.specs.Typings.{Rule, StatementRule, Use, as_value, meeting, IsTyped}
+use Rattle.kt_check_rules.specs.Typings.{Rule, as_value, meeting, IsTyped}
 
 -- the operator that an assignment applies to the old value
 abbrev pub applied_by : AssignmentOperator → Option BinaryOperator

@@ -1,7 +1,6 @@
 -- Bodies: what stands directly in them, and its typing.
-use Rattle.std.specs.Prelude.{ℕ, Bool, true, false, not, List, [], ◌∷◌, ◌++◌, length, ◌≡◌, ◌&&◌, ◌||◌, IsTrue}
+use Rattle.std.specs.Prelude.{Bool, true, false, not, List, [], ◌∷◌, length, ◌≡◌, ◌&&◌, ◌||◌, IsTrue}
 use Rattle.kt_base.specs.declared.refusals.Pos.{Pos}
-use Rattle.kt_tree.specs.Bodies as tree
 use Rattle.kt_tree.specs.Bodies.{ExpressionTree, literal, template, name, this, parenthesized, lambda, prefix, binary, type_check, cast, not_null, member, index, call, if_else, when, try_catch, throw, return, break, continue}
 use Rattle.kt_tree.specs.Bodies.{StatementTree, local, assign, step, while, do_while, for, evaluate, StatementTrees, statements_end, statement_then, block}
 use Rattle.kt_tree.specs.Declarations as declared
@@ -14,7 +13,7 @@ use Rattle.kt_flow.specs.Facts.{no_facts}
 use Rattle.kt_check_rules.specs.Kinds.{is_unit}
 use Rattle.kt_check_rules.specs.States.{Context, State, next_local, declaring, assigned, entering}
 use Rattle.kt_check_rules.specs.Completion.{statement_completes}
-use Rattle.kt_check_rules.specs.Typings.{Rule, StatementRule, meeting, IsTyped}
+use Rattle.kt_check_rules.specs.Typings.{meeting, IsTyped}
 use Rattle.kt_check_rules.specs.Rules.{Typed, TypedStatement}
 
 -- What a body holds directly: statements and the closing brace, or the expression behind `=`. Arguments of a superclass

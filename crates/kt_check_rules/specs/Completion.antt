@@ -1,5 +1,5 @@
 -- What completes: after which expressions and statements the text goes on.
-use Rattle.std.specs.Prelude.{ℕ, zero, suc, Bool, true, false, not, List, [], ◌∷◌, length, slice_get, Option, Some, None, ◌==◌, ◌&&◌, ◌||◌, if◌then◌else◌}
+use Rattle.std.specs.Prelude.{ℕ, zero, suc, Bool, true, false, not, length, slice_get, Option, Some, None, ◌==◌, ◌&&◌, ◌||◌}
 use Rattle.kt_types_tree.specs.declared.types.TypeConstructor.TheVariants as c
 use Rattle.kt_types_tree.specs.Types.{TypeForm, typed, of}
 use Rattle.kt_typed.specs.declared.operators.TypedLiteral.TheVariants as is

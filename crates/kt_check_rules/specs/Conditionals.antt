@@ -1,18 +1,18 @@
 -- Blocks and branches (Kotlin specification, "Code blocks", "Conditional expressions", "When expressions").
-use Rattle.std.specs.Prelude.{ℕ, Bool, true, false, not, List, [], ◌∷◌, ◌++◌, Option, Some, None, ◌≡◌, ◌||◌, IsTrue, find, if◌then◌else◌}
+use Rattle.std.specs.Prelude.{Bool, true, false, List, [], ◌∷◌, ◌++◌, Option, Some, None, ◌≡◌, IsTrue, find}
 use Rattle.kt_base.specs.declared.refusals.Pos.{Pos}
 use Rattle.kt_types_tree.specs.Types.{TypeForm}
 use Rattle.kt_types_order.specs.Below.{IsBelow}
 use Rattle.kt_typed.specs.declared.operators.TypedOperator.TheVariants as op
 use Rattle.kt_typed.specs.Bodies as t
 use Rattle.kt_typed.specs.Bodies.{ExpressionForm, binary, type_test, MaybeExpression, no_expression, some_expression, EntryForm, entry, EntryForms, entries_of, ConditionForm, equals, holds, of_type, conditions_of, BlockForm, block, MaybeBlock, no_block, some_block, StatementForm, evaluate, statements_of}
-use Rattle.kt_flow.specs.Facts.{FactsForm, meet_all}
+use Rattle.kt_flow.specs.Facts.{FactsForm}
 use Rattle.kt_check_rules.specs.Choices.{IsFirst, pairs, or_else, first_of}
 use Rattle.kt_check_rules.specs.Kinds.{type_of, unit_type, boolean_type, is_testable}
 use Rattle.kt_check_rules.specs.States.{Context, State, hierarchy, entering, leaving, with_facts, Path, path, joined, met}
 use Rattle.kt_check_rules.specs.Completion.{block_completes, is_exhaustive, names_all}
 use Rattle.kt_check_rules.specs.Operators.{AreComparable, HasType, after_test}
-use Rattle.kt_check_rules.specs.Typings.{Rule, StatementRule, BlockRule, Use, unused, as_value, meeting, IsTyped, GivesOne, IsNone}
+use Rattle.kt_check_rules.specs.Typings.{Rule, StatementRule, BlockRule, Use, unused, as_value, meeting, IsTyped, GivesOne}
 
 -- Blocks.
 

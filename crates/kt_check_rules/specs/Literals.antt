@@ -1,6 +1,5 @@
 -- Literals and strings (Kotlin specification, "Constant literals", "String interpolation expressions").
-use Rattle.std.specs.Prelude.{ℕ, Bool, true, false, List, [], ◌∷◌, Option, Some, None, ◌≡◌, nat_le, pos, if◌then◌else◌}
-use Rattle.kt_tree.specs.declared.tokens.Number.{Number}
+use Rattle.std.specs.Prelude.{ℕ, Bool, true, false, List, Option, Some, None, ◌≡◌, nat_le, pos, if◌then◌else◌}
 use Rattle.kt_tree.specs.declared.bodies.TextPart.{TextPart}
 use Rattle.kt_tree.specs.declared.bodies.Literal.{Literal}
 use Rattle.kt_tree.specs.declared.bodies.Literal.TheVariants as written

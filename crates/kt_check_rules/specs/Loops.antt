@@ -1,5 +1,5 @@
 -- Loops and jumps (Kotlin specification, "Loop statements", "Jump expressions").
-use Rattle.std.specs.Prelude.{ℕ, Bool, true, false, List, [], ◌∷◌, ◌++◌, Some, ◌≡◌, ◌||◌, find, IsTrue, if◌then◌else◌}
+use Rattle.std.specs.Prelude.{ℕ, Bool, true, false, List, [], ◌∷◌, ◌++◌, Some, ◌≡◌, find, IsTrue, if◌then◌else◌}
 use Rattle.kt_base.specs.declared.refusals.Pos.{Pos}
 use Rattle.kt_tree.specs.declared.bodies.RangeOperator.{RangeOperator}
 use Rattle.kt_types_tree.specs.Types.{TypeForm}
@@ -11,12 +11,12 @@ use Rattle.kt_typed.specs.Bodies.{ExpressionForm, MaybeExpression, no_expression
 use Rattle.kt_flow.specs.Facts.{FactsForm, meet_all}
 use Rattle.kt_check_rules.specs.Choices.{pairs}
 use Rattle.kt_check_rules.specs.Kinds.{type_of, width_of, boolean_type, nothing_type, is_unit}
-use Rattle.kt_check_rules.specs.States.{Context, State, Book, next_local, entering, leaving, declaring, assigned, with_facts, Path, path, joined, met}
+use Rattle.kt_check_rules.specs.States.{Context, State, Book, next_local, entering, declaring, assigned, with_facts, Path, path, joined, met}
 use Rattle.kt_check_rules.specs.Completion.{is_always, statements_complete}
 use Rattle.kt_check_rules.specs.Operators.{after_test}
 use Rattle.kt_check_rules.specs.Conditionals.{LinesRule}
 use Rattle.kt_check_rules.specs.Typings.{Rule, BlockRule, Use, unused, as_value, meeting, IsTyped, GivesOne}
-use Rattle.std.specs.Prelude.{Option, None}
+use Rattle.std.specs.Prelude.{Option}
 
 -- what was known at the jumps of another loop
 abbrev pub with_jumps : Book → Book → Book

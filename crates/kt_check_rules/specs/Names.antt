@@ -1,5 +1,5 @@
 -- Names: locals with their facts, and constants.
-use Rattle.std.specs.Prelude.{ℕ, Bool, true, false, List, [], ◌∷◌, ◌+◌, map, slice_get, Option, Some, None, ◌≡◌, if◌then◌else◌}
+use Rattle.std.specs.Prelude.{ℕ, Bool, true, false, List, [], ◌∷◌, ◌+◌, map, slice_get, Option, Some, None, if◌then◌else◌}
 use Rattle.kt_types_tree.specs.Types.{TypeForm}
 use Rattle.kt_typed.specs.declared.operators.LocalKind.{LocalKind}
 use Rattle.kt_typed.specs.declared.operators.LocalKind.TheVariants as kind
@@ -8,7 +8,7 @@ use Rattle.kt_typed.specs.Headers.{ConstantForm}
 use Rattle.kt_typed.specs.Bodies.{ExpressionForm, local, constant}
 use Rattle.kt_flow.specs.Facts.{FactsForm, types_of}
 use Rattle.kt_check_rules.specs.States.{Context, State, local_named, is_name}
-use Rattle.kt_check_rules.specs.Typings.{Rule, Use, GivesSome}
+use Rattle.kt_check_rules.specs.Typings.{Rule, GivesSome}
 
 -- a `var` has no facts
 abbrev pub is_stable : LocalKind → Bool

@@ -1,5 +1,5 @@
 -- Operators (Kotlin specification, "Logical disjunction expression" to "Unary prefix expression").
-use Rattle.std.specs.Prelude.{ℕ, Bool, true, false, not, List, [], ◌∷◌, Option, Some, None, ◌≡◌, ◌⊎◌, ◌&&◌, IsTrue, if◌then◌else◌}
+use Rattle.std.specs.Prelude.{Bool, true, false, not, List, [], ◌∷◌, Option, Some, None, ◌≡◌, ◌⊎◌, ◌&&◌, IsTrue, if◌then◌else◌}
 use Rattle.kt_tree.specs.declared.bodies.BinaryOperator.{BinaryOperator}
 use Rattle.kt_tree.specs.declared.bodies.BinaryOperator.TheVariants as o
 use Rattle.kt_tree.specs.declared.bodies.PrefixOperator.TheVariants as before
@@ -24,10 +24,10 @@ use Rattle.kt_typed.specs.declared.operators.TypedOperator.TheVariants as op
 use Rattle.kt_typed.specs.Bodies.{ExpressionForm, literal, prefix, binary}
 use Rattle.kt_flow.specs.Facts.{FactsForm, meet}
 use Rattle.kt_check_rules.specs.Choices.{IsFirst, first_some, pairs, then_on}
-use Rattle.kt_check_rules.specs.Kinds.{type_of, width_of, number_type, boolean_type, string_type, char_type, is_printable, is_equatable, is_operand, may_be_null, without_null, present_type, IsCommon}
+use Rattle.kt_check_rules.specs.Kinds.{type_of, width_of, number_type, boolean_type, string_type, is_printable, is_equatable, is_operand, may_be_null, without_null, present_type, IsCommon}
 use Rattle.kt_check_rules.specs.States.{Context, State, hierarchy, with_facts}
 use Rattle.kt_check_rules.specs.Learning.{learnt}
-use Rattle.kt_check_rules.specs.Typings.{Rule, Use, unused, as_value, meeting, IsTyped, Gives, GivesOne, GivesIf}
+use Rattle.kt_check_rules.specs.Typings.{Rule, Use, unused, as_value, meeting, IsTyped, GivesOne, GivesIf}
 
 -- an operation, and the type of what it gives
 abbrev pub Operation : Type 0

@@ -1,5 +1,5 @@
 -- Where a file that has no typed unit is refused.
-use Rattle.std.specs.Prelude.{ℕ, ◌-◌, ◌+◌, ◌≤◌, Bool, true, false, List, [], ◌∷◌, ◌++◌, Some, ◌≡◌, length, take, slice_get}
+use Rattle.std.specs.Prelude.{ℕ, ◌-◌, ◌+◌, ◌≤◌, false, List, [], ◌∷◌, ◌++◌, Some, ◌≡◌, length, take, slice_get}
 use Rattle.kt_base.specs.declared.refusals.Pos.{Pos}
 use Rattle.kt_typed.specs.Bodies.{FunForm}
 use Rattle.kt_check_rules.specs.Bodies.{Direct, Body, place_of, AreBodies}

@@ -8,7 +8,7 @@ use Rattle.kt_typed.specs.declared.operators.LocalKind.TheVariants as kind
 use Rattle.kt_typed.specs.Bodies.{ExpressionForm, StatementForm, declare, no_expression, some_expression}
 use Rattle.kt_check_rules.specs.Kinds.{type_of}
 use Rattle.kt_check_rules.specs.States.{Context, State, meaning, is_free, next_local, declaring, assigned}
-use Rattle.kt_check_rules.specs.Typings.{Rule, StatementRule, Use, as_value, meeting, IsTyped}
+use Rattle.kt_check_rules.specs.Typings.{Rule, StatementRule, as_value, meeting, IsTyped}
 
 abbrev pub local_kind : Bool → LocalKind
 local_kind true = kind.Var
