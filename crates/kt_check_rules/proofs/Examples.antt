@@ -99,7 +99,8 @@ from_is_not = refl
 -- Joins.
 
 -- behind `if (x == null) return` what the other path knows stays
-pub behind_return : (joined no_facts (path false no_facts ∷ path true (learn 0 int_type no_facts) ∷ [])).types 0 ≡ int_type ∷ []
+pub behind_return : (joined no_facts (path false no_facts ∷ path true (learn 0 int_type no_facts)
+    ∷ [])).types 0 ≡ int_type ∷ []
 behind_return = refl
 
 -- a fact of one path alone is lost, and the order is that of the first
@@ -138,13 +139,16 @@ not_a_parameter = refl
 
 -- Numbers.
 
-pub small : literal_of as_value (written.Number (record { value = Some 2147483647; long = false })) ≡ Some (int_literal 2147483647)
+pub small : literal_of as_value (written.Number (record { value = Some 2147483647; long = false }))
+    ≡ Some (int_literal 2147483647)
 small = refl
 
-pub great : literal_of as_value (written.Number (record { value = Some 2147483648; long = false })) ≡ Some (long_literal 2147483648)
+pub great : literal_of as_value (written.Number (record { value = Some 2147483648; long = false }))
+    ≡ Some (long_literal 2147483648)
 great = refl
 
-pub wanted : literal_of (meeting (or_null true long_type)) (written.Number (record { value = Some 1; long = false })) ≡ Some (long_literal 1)
+pub wanted : literal_of (meeting (or_null true long_type))
+    (written.Number (record { value = Some 1; long = false })) ≡ Some (long_literal 1)
 wanted = refl
 
 pub too_great : literal_of as_value (written.Number (record { value = None; long = true })) ≡ None
@@ -172,7 +176,8 @@ for_ever = refl
 
 pub until_break :
     statement_completes (headers_with [])
-    (while (at 1 1) (truth true) (block (statement_then (evaluate (at 1 1) (break nothing_type)) statements_end) no_expression))
+    (while (at 1 1) (truth true) (block (statement_then (evaluate (at 1 1) (break nothing_type)) statements_end)
+    no_expression))
     ≡ true
 until_break = refl
 

@@ -12,7 +12,8 @@ use Rattle.kt_check_rules.specs.Laws.{OnePlace, NotBoth, CutsHaveTyping}
 
 -- what has a typing has one when it is cut
 
-directs_cut : (K : Context) (ds : List Direct) (n : ℕ) (s : State) (o : Bool) (us : List StatementForm) (a : State) → AreDirects K ds s o us a → (vs : List StatementForm) × (b : State) × AreDirects K (take n ds) s o vs b
+directs_cut : (K : Context) (ds : List Direct) (n : ℕ) (s : State) (o : Bool) (us : List StatementForm) (a : State)
+    → AreDirects K ds s o us a → (vs : List StatementForm) × (b : State) × AreDirects K (take n ds) s o vs b
 directs_cut K ds zero s o us a y = ([], s, (refl, refl))
 directs_cut K [] (suc n) s o us a y = ([], s, (refl, refl))
 directs_cut K (d ∷ ds) (suc n) s o us a y =
@@ -44,7 +45,8 @@ cuts_have_typing n (b ∷ bs) fs (f, more, (y, (ys, e))) =
 
 -- one place
 
-pub first_place : (Fails : List Body → Type 0) (bs : List Body) (p q : Pos) → FailsAt Fails bs p → FailsAt Fails bs q → p ≡ q
+pub first_place : (Fails : List Body → Type 0) (bs : List Body) (p q : Pos) → FailsAt Fails bs p →
+    FailsAt Fails bs q → p ≡ q
 first_place Fails bs p q y z = place_in_order (cases_order y.n z.n)
   where
     place_in_order : (y.n ≡ z.n) ⊎ (y.n < z.n) ⊎ (z.n < y.n) → p ≡ q

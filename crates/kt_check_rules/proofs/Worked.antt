@@ -22,12 +22,251 @@ use Rattle.kt_check_rules.proofs.OnceRules as rules
 -- facts through `if`, and `?:`
 pub smart_cast_typed : (fs : List FunForm) × AreBodies (bodies smart_cast) fs
 unfolding built_in_named all_types
-smart_cast_typed = (_ ∷ [], (_, [], (record { statements = _; end = _; are = record { y = _; more = _; between = _; goes_on = _; first = record { typed = record { t = _; u = _; end = _; free = refl; means = refl; value = record { typings = _; reads = (refl, refl); takes = inl (null_below, refl) }; whole = refl; after = refl }; ends = refl }; rest = record { y = _; more = _; between = _; goes_on = _; first = record { typed = record { u = _; typed = record { typings = _; reads = record { u = _; x = _; y = _; types = _; p = _; whole = _; tested = _; between = _; end = _; condition = record { typings = _; reads = record { lefts = _; rights = _; between = _; end = _; chosen = _; left = (refl, refl); right = (refl, refl); first = inl (inl (inr (refl, refl)), refl); gives = (refl, refl) }; takes = inl (same, refl) }; first = record { statements = _; value = _; end = _; are = record { line = _; lines = _; between = _; first = record { u = _; typed = record { typings = _; reads = record { chosen = _; values = _; end = _; is = refl; are = record { one = _; others = _; between = _; first = record { typings = _; reads = record { lefts = _; rights = _; between = _; end = _; left = (refl, refl); right = (refl, refl); gives = (refl, refl) }; takes = refl }; rest = (refl, refl); whole = refl }; gives = (refl, refl) }; takes = refl }; whole = refl }; rest = record { meets = tt; none = refl; no_value = refl; same = refl }; whole = refl }; whole = refl; left = refl }; second = (refl, refl, refl, refl); has = refl; gives = (refl, refl) }; takes = refl }; whole = refl }; ends = refl }; rest = record { y = _; more = _; between = _; goes_on = _; first = record { typed = record { u = _; typed = record { typings = _; reads = record { chosen = _; values = _; end = _; is = refl; are = record { one = _; others = _; between = _; first = record { typings = _; reads = record { u = _; v = _; whole = _; between = _; end = _; left = record { typings = _; reads = (refl, refl); takes = refl }; right = record { typings = _; reads = (refl, refl); takes = refl }; has = inl ((same, (same, tt)), refl); gives = (refl, refl) }; takes = refl }; rest = (refl, refl); whole = refl }; gives = (refl, refl) }; takes = refl }; whole = refl }; ends = refl }; rest = record { y = _; more = _; between = _; goes_on = _; first = record { allowed = refl; whole = refl; same = refl; ends = refl }; rest = (refl, refl); whole = refl }; whole = refl }; whole = refl }; whole = refl }; whole = refl }, (refl, refl))))
+smart_cast_typed = (
+  _ ∷ [],
+  (
+    _,
+    [],
+    (
+      record {
+        statements = _;
+        end = _;
+        are = record {
+          y = _;
+          more = _;
+          between = _;
+          goes_on = _;
+          first = record {
+            typed = record {
+              t = _;
+              u = _;
+              end = _;
+              free = refl;
+              means = refl;
+              value = record { typings = _; reads = (refl, refl); takes = inl (null_below, refl) };
+              whole = refl;
+              after = refl;
+            };
+            ends = refl;
+          };
+          rest = record {
+            y = _;
+            more = _;
+            between = _;
+            goes_on = _;
+            first = record {
+              typed = record {
+                u = _;
+                typed = record {
+                  typings = _;
+                  reads = record {
+                    u = _;
+                    x = _;
+                    y = _;
+                    types = _;
+                    p = _;
+                    whole = _;
+                    tested = _;
+                    between = _;
+                    end = _;
+                    condition = record {
+                      typings = _;
+                      reads = record {
+                        lefts = _;
+                        rights = _;
+                        between = _;
+                        end = _;
+                        chosen = _;
+                        left = (refl, refl);
+                        right = (
+                          refl,
+                          refl,
+                        );
+                        first = inl (inl (inr (refl, refl)), refl);
+                        gives = (refl, refl);
+                      };
+                      takes = inl (same, refl);
+                    };
+                    first = record {
+                      statements = _;
+                      value = _;
+                      end = _;
+                      are = record {
+                        line = _;
+                        lines = _;
+                        between = _;
+                        first = record {
+                          u = _;
+                          typed = record {
+                            typings = _;
+                            reads = record {
+                              chosen = _;
+                              values = _;
+                              end = _;
+                              is = refl;
+                              are = record {
+                                one = _;
+                                others = _;
+                                between = _;
+                                first = record {
+                                  typings = _;
+                                  reads = record {
+                                    lefts = _;
+                                    rights = _;
+                                    between = _;
+                                    end = _;
+                                    left = (refl, refl);
+                                    right = (refl, refl);
+                                    gives = (refl, refl);
+                                  };
+                                  takes = refl;
+                                };
+                                rest = (refl, refl);
+                                whole = refl;
+                              };
+                              gives = (refl, refl);
+                            };
+                            takes = refl;
+                          };
+                          whole = refl;
+                        };
+                        rest = record { meets = tt; none = refl; no_value = refl; same = refl };
+                        whole = refl;
+                      };
+                      whole = refl;
+                      left = refl;
+                    };
+                    second = (refl, refl, refl, refl);
+                    has = refl;
+                    gives = (
+                      refl,
+                      refl,
+                    );
+                  };
+                  takes = refl;
+                };
+                whole = refl;
+              };
+              ends = refl;
+            };
+            rest = record {
+              y = _;
+              more = _;
+              between = _;
+              goes_on = _;
+              first = record {
+                typed = record {
+                  u = _;
+                  typed = record {
+                    typings = _;
+                    reads = record {
+                      chosen = _;
+                      values = _;
+                      end = _;
+                      is = refl;
+                      are = record {
+                        one = _;
+                        others = _;
+                        between = _;
+                        first = record {
+                          typings = _;
+                          reads = record {
+                            u = _;
+                            v = _;
+                            whole = _;
+                            between = _;
+                            end = _;
+                            left = record { typings = _; reads = (refl, refl); takes = refl };
+                            right = record {
+                              typings = _;
+                              reads = (
+                                refl,
+                                refl,
+                              );
+                              takes = refl;
+                            };
+                            has = inl ((same, (same, tt)), refl);
+                            gives = (refl, refl);
+                          };
+                          takes = refl;
+                        };
+                        rest = (refl, refl);
+                        whole = refl;
+                      };
+                      gives = (refl, refl);
+                    };
+                    takes = refl;
+                  };
+                  whole = refl;
+                };
+                ends = refl;
+              };
+              rest = record {
+                y = _;
+                more = _;
+                between = _;
+                goes_on = _;
+                first = record {
+                  allowed = refl;
+                  whole = refl;
+                  same = refl;
+                  ends = refl;
+                };
+                rest = (refl, refl);
+                whole = refl;
+              };
+              whole = refl;
+            };
+            whole = refl;
+          };
+          whole = refl;
+        };
+        whole = refl;
+      },
+      (refl, refl),
+    ),
+  ),
+)
 
 -- `val y: Int = 1` alone
 pub int_typed : (fs : List FunForm) × AreBodies (cut 1 (bodies long_for_int)) fs
 unfolding built_in_named all_types
-int_typed = (_ ∷ [], (_, [], (record { statements = _; end = _; are = record { y = _; more = _; between = _; goes_on = _; first = record { typed = record { t = _; u = _; end = _; free = refl; means = refl; value = record { typings = _; reads = (refl, refl); takes = inl (same, refl) }; whole = refl; after = refl }; ends = refl }; rest = (refl, refl); whole = refl }; whole = refl }, (refl, refl))))
+int_typed = (
+  _ ∷ [],
+  (
+    _,
+    [],
+    (
+      record {
+        statements = _;
+        end = _;
+        are = record {
+          y = _;
+          more = _;
+          between = _;
+          goes_on = _;
+          first = record {
+            typed = record {
+              t = _;
+              u = _;
+              end = _;
+              free = refl;
+              means = refl;
+              value = record { typings = _; reads = (refl, refl); takes = inl (same, refl) };
+              whole = refl;
+              after = refl;
+            };
+            ends = refl;
+          };
+          rest = (refl, refl);
+          whole = refl;
+        };
+        whole = refl;
+      },
+      (refl, refl),
+    ),
+  ),
+)
 
 -- `Long` is no subtype of `Int`
 long_for : (h : HierarchyForm) → IsBelow h long_type int_type → ⊥
@@ -36,10 +275,12 @@ long_for h p =
     let e = r.0 in
     cc
 
-no_long : (h : HierarchyForm) (t : TypeForm) (us : List ExpressionForm) (u : ExpressionForm) → Some int_type ≡ Some t → us ≡ long_literal 1 ∷ [] → IsFirst (λ v. IsBelow h (type_of v) t) us u → ⊥
+no_long : (h : HierarchyForm) (t : TypeForm) (us : List ExpressionForm) (u : ExpressionForm) →
+    Some int_type ≡ Some t → us ≡ long_literal 1 ∷ [] → IsFirst (λ v. IsBelow h (type_of v) t) us u → ⊥
 no_long h t us u e f p =
     let d : int_type ≡ t = cc in
-    alone (subst (λ t. IsFirst (λ v. IsBelow h (type_of v) t) (long_literal 1 ∷ []) u) (sym d) (subst (λ us. IsFirst (λ v. IsBelow h (type_of v) t) us u) f p))
+    alone (subst (λ t. IsFirst (λ v. IsBelow h (type_of v) t) (long_literal 1 ∷ []) u) (sym d)
+    (subst (λ us. IsFirst (λ v. IsBelow h (type_of v) t) us u) f p))
   where
     alone : IsFirst (λ v. IsBelow h (type_of v) int_type) (long_literal 1 ∷ []) u → ⊥
     alone (inl q) = long_for h q.0
@@ -52,7 +293,19 @@ long_has_no_typing fs (f, rest, (b, more)) =
     no_long _ x.t x.value.typings x.u x.means x.value.reads.0 x.value.takes
 
 before_long : (m : ℕ) → m ≤ 1 → HasNoTyping (cut m (bodies long_for_int)) → ⊥
-before_long zero p fails = fails (_ ∷ []) (_, [], (record { statements = _; end = _; are = (refl, refl); whole = refl }, (refl, refl)))
+before_long zero p fails = fails (_ ∷ []) (
+  _,
+  [],
+  (
+    record {
+      statements = _;
+      end = _;
+      are = (refl, refl);
+      whole = refl;
+    },
+    (refl, refl),
+  ),
+)
 before_long (suc zero) p fails = fails int_typed.0 int_typed.1
 before_long (suc (suc m)) p fails = omega (arith, p)
 
@@ -67,7 +320,58 @@ long_refused = at_statement (record {
 
 -- `println(1)` alone
 pub print_typed : (fs : List FunForm) × AreBodies (cut 1 (bodies without_result)) fs
-print_typed = (_ ∷ _ ∷ [], (_, _ ∷ [], (record { statements = _; end = _; are = record { y = _; more = _; between = _; goes_on = _; first = record { typed = record { u = _; typed = record { typings = _; reads = record { chosen = _; values = _; end = _; is = refl; are = record { one = _; others = _; between = _; first = record { typings = _; reads = (refl, refl); takes = refl }; rest = (refl, refl); whole = refl }; gives = (refl, refl) }; takes = refl }; whole = refl }; ends = refl }; rest = (refl, refl); whole = refl }; whole = refl }, ((_, [], (record { statements = _; end = _; are = (refl, refl); whole = refl }, (refl, refl))), refl))))
+print_typed = (
+  _ ∷ _ ∷ [],
+  (
+    _,
+    _ ∷ [],
+    (
+      record {
+        statements = _;
+        end = _;
+        are = record {
+          y = _;
+          more = _;
+          between = _;
+          goes_on = _;
+          first = record {
+            typed = record {
+              u = _;
+              typed = record {
+                typings = _;
+                reads = record {
+                  chosen = _;
+                  values = _;
+                  end = _;
+                  is = refl;
+                  are = record {
+                    one = _;
+                    others = _;
+                    between = _;
+                    first = record { typings = _; reads = (refl, refl); takes = refl };
+                    rest = (refl, refl);
+                    whole = refl;
+                  };
+                  gives = (refl, refl);
+                };
+                takes = refl;
+              };
+              whole = refl;
+            };
+            ends = refl;
+          };
+          rest = (refl, refl);
+          whole = refl;
+        };
+        whole = refl;
+      },
+      (
+        (_, [], (record { statements = _; end = _; are = (refl, refl); whole = refl }, (refl, refl))),
+        refl,
+      ),
+    ),
+  ),
+)
 
 falls_out : (g : Bool) → g ≡ true → IsTrue (not g || is_unit int_type) → ⊥
 falls_out true e p = cc
@@ -78,13 +382,28 @@ unfolding print_typed
 brace_has_no_typing fs (f, rest, (b, more)) =
     let known = print_typed.1.2.0.are.first.typed in
     let x = b.are.first in
-    let e = (rules.statement (context_of without_result (header (codes "f") int_type)) print_one).all _ _ _ _ _ _ refl x.typed known in
-    falls_out b.are.goes_on (x.ends ∙ ap (λ y. true && statement_completes without_result.headers y) e.0) b.are.rest.first.allowed
+    let e = (rules.statement (context_of without_result (header (codes "f") int_type))
+    print_one).all _ _ _ _ _ _ refl x.typed known in
+    falls_out b.are.goes_on (x.ends ∙ ap (λ y. true && statement_completes without_result.headers y) e.0)
+    b.are.rest.first.allowed
 
 before_brace : (m : ℕ) → m ≤ 1 → HasNoTyping (cut m (bodies without_result)) → ⊥
 before_brace zero p fails =
-    fails (_ ∷ _ ∷ [])
-    (_, _ ∷ [], (record { statements = _; end = _; are = (refl, refl); whole = refl }, ((_, [], (record { statements = _; end = _; are = (refl, refl); whole = refl }, (refl, refl))), refl)))
+    fails (_ ∷ _ ∷ []) (
+      _,
+      _ ∷ [],
+      (
+        record { statements = _; end = _; are = (refl, refl); whole = refl },
+        (
+          (
+            _,
+            [],
+            (record { statements = _; end = _; are = (refl, refl); whole = refl }, (refl, refl)),
+          ),
+          refl,
+        ),
+      ),
+    )
 before_brace (suc zero) p fails = fails print_typed.0 print_typed.1
 before_brace (suc (suc m)) p fails = omega (arith, p)
 

@@ -193,7 +193,8 @@ is_always e = is_truth true e
 -- Whether something completes.
 
 abbrev mutual
-  -- An `if` with `else` and a `when` that names every value complete where a branch does; a `try` where `finally` does and
+  -- An `if` with `else` and a `when` that names every value complete where a branch does; a `try` where `finally`
+  -- does and
   -- its block or a catch. Any other expression completes unless it is of type `Nothing`.
   pub completes : HeadersForm → ExpressionForm → Bool
   completes h (if_else t e x y) = block_completes h x || else_completes h y

@@ -29,7 +29,8 @@ int_literal v = literal int_type (is.Int (pos v))
 abbrev pub long_literal : ℕ → ExpressionForm
 long_literal v = literal long_type (is.Long (pos v))
 
--- A number without `L` is an `Int` up to the greatest one, and a `Long` above that; a `Long` also where one is expected.
+-- A number without `L` is an `Int` up to the greatest one, and a `Long` above that; a `Long` also where one is
+-- expected.
 abbrev pub number_of : Use → Bool → ℕ → ExpressionForm
 number_of w true v = long_literal v
 number_of w false v =
@@ -70,7 +71,8 @@ pub record PrintedParts (K : Context) (e : Rule) (s : State) (p : PartForm) (beh
   pub chosen : IsChosen (can_print K) e s value behind
   pub whole : p ≡ printed value
 
-pub record Templates (parts : State → List PartForm → State → Type 0) (s : State) (w : Use) (us : List ExpressionForm) (behind : State) : Type 0 where
+pub record Templates (parts : State → List PartForm → State → Type 0) (s : State) (w : Use)
+    (us : List ExpressionForm) (behind : State) : Type 0 where
   pub all : List PartForm
   pub end : State
   pub are : parts s all end

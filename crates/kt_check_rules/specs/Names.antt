@@ -29,7 +29,8 @@ reading_of n (Some l) f = if f.surely_assigned n then Some (map (local_with n) (
 -- constants, from a number on
 abbrev pub constant_named : ℕ → List ConstantForm → List ℕ → Option (List ExpressionForm)
 constant_named n [] x = None
-constant_named n (k ∷ ks) x = if is_name k.name x then Some (constant k.annotation n ∷ []) else constant_named (n + 1) ks x
+constant_named n (k ∷ ks) x = if is_name k.name x then Some (constant k.annotation n ∷ [])
+    else constant_named (n + 1) ks x
 
 -- a name is a local, else a constant
 abbrev pub named : Context → State → Option ℕ → List ℕ → Option (List ExpressionForm)

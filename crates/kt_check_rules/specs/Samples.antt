@@ -86,7 +86,8 @@ long_for_int =
     file_with
     (function_with (codes "main")
     (statement_then (local (at 2 5) false (codes "y") (Some int_name) (some_expression (number 1 false)))
-    (statement_then (local (at 3 5) false (codes "x") (Some int_name) (some_expression (number 1 true))) statements_end))
+    (statement_then (local (at 3 5) false (codes "x") (Some int_name) (some_expression (number 1 true)))
+    statements_end))
     (at 4 1)
     ∷ [])
     (header (codes "main") unit_type ∷ [])
