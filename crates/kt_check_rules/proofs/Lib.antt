@@ -6,3 +6,5 @@ mod OnceLoops
 mod OnceRules
 mod OnceBodies
 mod Placed
+mod Worked
+mod Examples

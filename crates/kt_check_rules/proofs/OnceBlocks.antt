@@ -1,15 +1,14 @@
 -- Blocks and branches have at most one typing where their parts have.
-use Rattle.std.proofs.Common.{ℕ, List, [], ◌∷◌, ◌++◌, Option, Some, None, ◌≡◌, refl, ap, ◌∙◌, sym, subst, Bool}
+use Rattle.std.proofs.Common.{List, [], ◌∷◌, Option, ◌≡◌, refl, ap, ◌∙◌, sym, subst, Bool}
 use Rattle.kt_base.specs.declared.refusals.Pos.{Pos}
 use Rattle.kt_types_tree.specs.Types.{TypeForm}
 use Rattle.kt_flow.specs.Facts.{FactsForm}
-use Rattle.kt_typed.specs.Bodies.{ExpressionForm, MaybeExpression, EntryForm, EntryForms, entries_of, ConditionForm, BlockForm, MaybeBlock, StatementForm, evaluate, some_expression}
+use Rattle.kt_typed.specs.Bodies.{ExpressionForm, MaybeExpression, EntryForm, EntryForms, ConditionForm, MaybeBlock, StatementForm, evaluate, some_expression}
 use Rattle.kt_check_rules.specs.Choices.{pairs}
-use Rattle.kt_check_rules.specs.Kinds.{unit_type}
 use Rattle.kt_check_rules.specs.States.{Context, State, Path, hierarchy}
-use Rattle.kt_check_rules.specs.Typings.{Rule, StatementRule, BlockRule, Use, unused, as_value, meeting, IsTyped, GivesOne}
-use Rattle.kt_check_rules.specs.Operators.{AreComparable, HasType}
-use Rattle.kt_check_rules.specs.Conditionals.{LinesRule, NoLines, LineThen, Evaluations, Values, LastLine, Blocks, HasBranchType, ElseRule, NoElse, Else, Ifs, ConditionRule, Equals, Holds, Conditions, OfTypes, TypeConditions, ConditionsRule, NoConditions, ConditionThen, EntriesRule, NoEntries, EntryThen, WhenRest, Whens, WhensWithout, shown_subject, no_subject}
+use Rattle.kt_check_rules.specs.Typings.{Rule, StatementRule, BlockRule, Use, unused, as_value, meeting}
+use Rattle.kt_check_rules.specs.Operators.{AreComparable}
+use Rattle.kt_check_rules.specs.Conditionals.{LinesRule, NoLines, LineThen, Evaluations, Values, LastLine, Blocks, HasBranchType, ElseRule, NoElse, Else, Ifs, ConditionRule, Equals, Holds, Conditions, TypeConditions, ConditionsRule, NoConditions, ConditionThen, EntriesRule, NoEntries, EntryThen, WhenRest, Whens, WhensWithout, shown_subject, no_subject}
 use Rattle.kt_check_rules.proofs.Once.{OnceFor, OnceAt, once, once_at, first_once_of, same_some, gives_one, typed_once}
 use Rattle.kt_check_rules.proofs.OnceOperators.{type_once}
 
@@ -28,7 +27,8 @@ no_lines_once K = record {
       (y.none ∙ sym z.none, y.no_value ∙ sym z.no_value, y.same ∙ p ∙ sym z.same);
 }
 
-pub line_then_once : (one : StatementRule) (others : LinesRule) → OnceAt one → OnceLines others → OnceLines (LineThen one others)
+pub line_then_once : (one : StatementRule) (others : LinesRule) → OnceAt one → OnceLines others →
+    OnceLines (LineThen one others)
 line_then_once one others i j = record {
   all = λ s t w x us vs m n a b p q y z.
       let f = once_at i p y.first z.first in
@@ -50,9 +50,12 @@ values_once K e i = record {
       (y.none ∙ sym z.none, y.is_value ∙ ap some_expression r.0 ∙ sym z.is_value, r.1);
 }
 
-last_line : (K : Context) (at : Pos) (e : Rule) → OnceFor e → (s t : State) (w : Use) (us vs : List StatementForm) (m n : MaybeExpression) (a b : State) → s ≡ t → LastLine K at e s w us m a → LastLine K at e t w vs n b → (us ≡ vs) × (m ≡ n) × (a ≡ b)
+last_line : (K : Context) (at : Pos) (e : Rule) → OnceFor e → (s t : State) (w : Use) (us vs : List StatementForm)
+    (m n : MaybeExpression) (a b : State) → s ≡ t → LastLine K at e s w us m a → LastLine K at e t w vs n b →
+    (us ≡ vs) × (m ≡ n) × (a ≡ b)
 last_line K at e i s t unused us vs m n a b p y z =
-    once_lines (line_then_once (Evaluations K at e) (NoLines K) (evaluations_once K at e i) (no_lines_once K)) p refl y z
+    once_lines (line_then_once (Evaluations K at e) (NoLines K) (evaluations_once K at e i) (no_lines_once K))
+    p refl y z
 last_line K at e i s t as_value us vs m n a b p y z = once_lines (values_once K e i) p refl y z
 last_line K at e i s t (meeting u) us vs m n a b p y z = once_lines (values_once K e i) p refl y z
 
@@ -69,12 +72,14 @@ blocks_once lines i = record {
       (y.whole ∙ rw (r.0, r.1) refl ∙ sym z.whole, y.left ∙ rw (p, r.2) refl ∙ sym z.left);
 }
 
-branch_type : (K : Context) (w : Use) (ts : List TypeForm) (u v : TypeForm) → HasBranchType K w ts u → HasBranchType K w ts v → u ≡ v
+branch_type : (K : Context) (w : Use) (ts : List TypeForm) (u v : TypeForm) → HasBranchType K w ts u →
+    HasBranchType K w ts v → u ≡ v
 branch_type K unused ts u v y z = y ∙ sym z
 branch_type K as_value ts u v y z = type_once K as_value as_value ts ts u v refl refl y z
 branch_type K (meeting t) ts u v y z = y ∙ sym z
 
-branch_type_of : (K : Context) (w x : Use) (ts us : List TypeForm) (u v : TypeForm) → w ≡ x → ts ≡ us → HasBranchType K w ts u → HasBranchType K x us v → u ≡ v
+branch_type_of : (K : Context) (w x : Use) (ts us : List TypeForm) (u v : TypeForm) → w ≡ x → ts ≡ us →
+    HasBranchType K w ts u → HasBranchType K x us v → u ≡ v
 branch_type_of K w x ts us u v e f y z =
     branch_type K w ts u v y
     (subst (λ w. HasBranchType K w ts v) (sym e) (subst (λ ts. HasBranchType K x ts v) (sym f) z))
@@ -89,7 +94,8 @@ pub record OnceElse (e : ElseRule) : Type 0 where
 once_else : {e : ElseRule} {s t : State} {w x : Use} {u v : MaybeBlock} {ts us : List TypeForm} {k l : Path} {a b : State} → OnceElse e → s ≡ t → w ≡ x → e s w u ts k a → e t x v us l b → (u ≡ v) × (ts ≡ us) × (k ≡ l) × (a ≡ b)
 once_else i p q y z = i.all _ _ _ _ _ _ _ _ _ _ _ _ p q y z
 
-no_else : (s t : State) (w : Use) (u v : MaybeBlock) (ts us : List TypeForm) (k l : Path) (a b : State) → s ≡ t → NoElse s w u ts k a → NoElse t w v us l b → (u ≡ v) × (ts ≡ us) × (k ≡ l) × (a ≡ b)
+no_else : (s t : State) (w : Use) (u v : MaybeBlock) (ts us : List TypeForm) (k l : Path) (a b : State) → s ≡ t →
+    NoElse s w u ts k a → NoElse t w v us l b → (u ≡ v) × (ts ≡ us) × (k ≡ l) × (a ≡ b)
 no_else s t unused u v ts us k l a b p y z =
     (y.0 ∙ sym z.0, y.1 ∙ sym z.1, y.2 ∙ rw p refl ∙ sym z.2, y.3 ∙ p ∙ sym z.3)
 no_else s t as_value u v ts us k l a b p y z = absurd y
@@ -112,7 +118,8 @@ else_once K body i = record {
       );
 }
 
-pub ifs_once : (K : Context) (test : Rule) (branch : BlockRule) (otherwise : ElseRule) → OnceFor test → OnceFor branch → OnceElse otherwise → OnceFor (Ifs K test branch otherwise)
+pub ifs_once : (K : Context) (test : Rule) (branch : BlockRule) (otherwise : ElseRule) → OnceFor test →
+    OnceFor branch → OnceElse otherwise → OnceFor (Ifs K test branch otherwise)
 ifs_once K test branch otherwise i j k = record {
   all = λ s t w x us vs a b p q y z.
       let c = once (typed_once K test i) p refl y.condition z.condition in
@@ -129,18 +136,23 @@ pub record OnceCondition (e : ConditionRule) : Type 0 where
       (l m : List ExpressionForm) (s t : State) (u v : ConditionForm) (f g : ExpressionForm) (a b : State) →
       l ≡ m → s ≡ t → e l s u f a → e m t v g b → (u ≡ v) × (f ≡ g) × (a ≡ b)
 
-conditions_of_no_subject : (K : Context) (e : Rule) → OnceFor e → (s t : State) (u v : ConditionForm) (f g : ExpressionForm) (a b : State) → s ≡ t → Holds K e s u f a → Holds K e t v g b → (u ≡ v) × (f ≡ g) × (a ≡ b)
+conditions_of_no_subject : (K : Context) (e : Rule) → OnceFor e → (s t : State) (u v : ConditionForm)
+    (f g : ExpressionForm) (a b : State) → s ≡ t → Holds K e s u f a → Holds K e t v g b → (u ≡ v) × (f ≡ g) × (a ≡ b)
 conditions_of_no_subject K e i s t u v f g a b p y z =
     let r = once (typed_once K e i) p refl y.typed z.typed in
     (y.whole ∙ rw r.0 refl ∙ sym z.whole, y.question ∙ r.0 ∙ sym z.question, r.1)
 
-conditions_of_subject : (K : Context) (e : Rule) → OnceFor e → (l : List ExpressionForm) (s t : State) (u v : ConditionForm) (f g : ExpressionForm) (a b : State) → s ≡ t → Equals K e l s u f a → Equals K e l t v g b → (u ≡ v) × (f ≡ g) × (a ≡ b)
+conditions_of_subject : (K : Context) (e : Rule) → OnceFor e → (l : List ExpressionForm) (s t : State)
+    (u v : ConditionForm) (f g : ExpressionForm) (a b : State) → s ≡ t → Equals K e l s u f a →
+    Equals K e l t v g b → (u ≡ v) × (f ≡ g) × (a ≡ b)
 conditions_of_subject K e i l s t u v f g a b p y z =
     let r = once i p refl y.reads z.reads in
     let h = first_once_of (AreComparable (hierarchy K)) _ _ y.chosen z.chosen (ap (pairs l) r.0) y.first z.first in
     (y.whole ∙ rw h refl ∙ sym z.whole, y.question ∙ rw h refl ∙ sym z.question, r.1)
 
-conditions_homogeneous : (K : Context) (e : Rule) → OnceFor e → (l : List ExpressionForm) (s t : State) (u v : ConditionForm) (f g : ExpressionForm) (a b : State) → s ≡ t → Conditions K e l s u f a → Conditions K e l t v g b → (u ≡ v) × (f ≡ g) × (a ≡ b)
+conditions_homogeneous : (K : Context) (e : Rule) → OnceFor e → (l : List ExpressionForm) (s t : State)
+    (u v : ConditionForm) (f g : ExpressionForm) (a b : State) → s ≡ t → Conditions K e l s u f a →
+    Conditions K e l t v g b → (u ≡ v) × (f ≡ g) × (a ≡ b)
 conditions_homogeneous K e i [] s t u v f g a b p y z = conditions_of_no_subject K e i s t u v f g a b p y z
 conditions_homogeneous K e i (x ∷ l) s t u v f g a b p y z = conditions_of_subject K e i (x ∷ l) s t u v f g a b p y z
 
@@ -150,7 +162,9 @@ conditions_once K e i = record {
       conditions_homogeneous K e i l s t u v f g a b p y (subst (λ l. Conditions K e l t v g b) (sym o) z);
 }
 
-type_conditions : (K : Context) (n : Bool) (m : Option TypeForm) (l : List ExpressionForm) (s t : State) (u v : ConditionForm) (f g : ExpressionForm) (a b : State) → s ≡ t → TypeConditions K n m l s u f a → TypeConditions K n m l t v g b → (u ≡ v) × (f ≡ g) × (a ≡ b)
+type_conditions : (K : Context) (n : Bool) (m : Option TypeForm) (l : List ExpressionForm) (s t : State)
+    (u v : ConditionForm) (f g : ExpressionForm) (a b : State) → s ≡ t → TypeConditions K n m l s u f a →
+    TypeConditions K n m l t v g b → (u ≡ v) × (f ≡ g) × (a ≡ b)
 type_conditions K n m [] s t u v f g a b p y z = absurd y
 type_conditions K n m (x ∷ l) s t u v f g a b p y z =
     let h = same_some m m y.tested z.tested refl y.means z.means in
@@ -172,7 +186,8 @@ no_conditions_once = record {
   all = λ l m s t u v f g a b o p y z. (y.0 ∙ sym z.0, y.1 ∙ sym z.1, y.2 ∙ p ∙ sym z.2);
 }
 
-pub condition_then_once : (K : Context) (one : ConditionRule) (others : ConditionsRule) → OnceCondition one → OnceConditions others → OnceConditions (ConditionThen K one others)
+pub condition_then_once : (K : Context) (one : ConditionRule) (others : ConditionsRule) → OnceCondition one →
+    OnceConditions others → OnceConditions (ConditionThen K one others)
 condition_then_once K one others i j = record {
   all = λ l m s t u v f g a b o p y z.
       let c = i.all l m s t _ _ _ _ _ _ o p y.first z.first in
@@ -182,7 +197,8 @@ condition_then_once K one others i j = record {
 
 pub record OnceEntries (e : EntriesRule) : Type 0 where
   pub all :
-      (l m : List ExpressionForm) (s t : State) (w x : Use) (u v : List EntryForm) (ts us : List TypeForm) (f g : List Path) (a b : State) →
+      (l m : List ExpressionForm) (s t : State) (w x : Use) (u v : List EntryForm) (ts us : List TypeForm)
+      (f g : List Path) (a b : State) →
       l ≡ m → s ≡ t → w ≡ x → e l s w u ts f a → e m t x v us g b → (u ≡ v) × (ts ≡ us) × (f ≡ g) × (a ≡ b)
 
 pub no_entries_once : OnceEntries NoEntries
@@ -191,7 +207,8 @@ no_entries_once = record {
       (y.0 ∙ sym z.0, y.1 ∙ sym z.1, y.2 ∙ sym z.2, y.3 ∙ p ∙ sym z.3);
 }
 
-pub entry_then_once : (K : Context) (conditions : ConditionsRule) (body : BlockRule) (others : EntriesRule) → OnceConditions conditions → OnceFor body → OnceEntries others → OnceEntries (EntryThen K conditions body others)
+pub entry_then_once : (K : Context) (conditions : ConditionsRule) (body : BlockRule) (others : EntriesRule) →
+    OnceConditions conditions → OnceFor body → OnceEntries others → OnceEntries (EntryThen K conditions body others)
 entry_then_once K conditions body others i j k = record {
   all = λ l m s t w x u v ts us f g a b o p q y z.
       let c = i.all l m s t _ _ _ _ _ _ o p y.asked z.asked in
@@ -204,7 +221,10 @@ entry_then_once K conditions body others i j k = record {
       );
 }
 
-when_rest : (K : Context) (entries : EntriesRule) → OnceEntries entries → (l m : List ExpressionForm) (f g : EntryForms → MaybeExpression) (s t : State) (w x : Use) (us vs : List ExpressionForm) (a b : State) → l ≡ m → f ≡ g → s ≡ t → w ≡ x → WhenRest K entries l f s w us a → WhenRest K entries m g t x vs b → (us ≡ vs) × (a ≡ b)
+when_rest : (K : Context) (entries : EntriesRule) → OnceEntries entries → (l m : List ExpressionForm)
+    (f g : EntryForms → MaybeExpression) (s t : State) (w x : Use) (us vs : List ExpressionForm) (a b : State) →
+    l ≡ m → f ≡ g → s ≡ t → w ≡ x → WhenRest K entries l f s w us a → WhenRest K entries m g t x vs b → (us ≡ vs)
+    × (a ≡ b)
 when_rest K entries i l m f g s t w x us vs a b o h p q y z =
     let r = i.all l m s t w x _ _ _ _ _ _ _ _ o p q y.are z.are in
     let d = branch_type_of K w x _ _ y.whole z.whole q r.1 y.has z.has in
@@ -216,7 +236,8 @@ whens_without_once K entries i = record {
       when_rest K entries i [] [] no_subject no_subject s t w x us vs a b refl refl p q y z;
 }
 
-pub whens_once : (K : Context) (e : Rule) (entries : EntriesRule) → OnceFor e → OnceEntries entries → OnceFor (Whens K e entries)
+pub whens_once : (K : Context) (e : Rule) (entries : EntriesRule) → OnceFor e → OnceEntries entries →
+    OnceFor (Whens K e entries)
 whens_once K e entries i j = record {
   all = λ s t w x us vs a b p q y z.
       let r = once i p refl y.evaluated z.evaluated in

@@ -1,15 +1,12 @@
 -- A file has at most one typed unit.
-use Rattle.std.proofs.Common.{ℕ, List, [], ◌∷◌, Option, Some, None, ◌≡◌, refl, ap, ◌∙◌, sym, subst, Bool}
-use Rattle.kt_base.specs.declared.refusals.Pos.{Pos}
-use Rattle.kt_tree.specs.Bodies.{ExpressionTree, StatementTree}
+use Rattle.std.proofs.Common.{List, [], ◌∷◌, ◌≡◌, refl, ◌∙◌, sym, Bool}
 use Rattle.kt_typed.specs.Headers.{HeadersForm}
-use Rattle.kt_typed.specs.Bodies.{ExpressionForm, StatementForm, FunForm}
+use Rattle.kt_typed.specs.Bodies.{StatementForm, FunForm}
 use Rattle.kt_typed.specs.Units.{UnitForm, ClassBodies}
 use Rattle.kt_check_rules.specs.States.{Context, State}
-use Rattle.kt_check_rules.specs.Typings.{Use}
-use Rattle.kt_check_rules.specs.Rules.{Typed, TypedStatement}
+use Rattle.kt_check_rules.specs.Rules.{Typed}
 use Rattle.kt_check_rules.specs.Bodies.{Direct, statement, value, closing, IsDirect, AreDirects, Body, IsBody, AreBodies}
-use Rattle.kt_check_rules.specs.Units.{File, bodies, IsUnit}
+use Rattle.kt_check_rules.specs.Units.{bodies}
 use Rattle.kt_check_rules.specs.Laws.{OneTyping, OneUnit}
 use Rattle.kt_check_rules.proofs.Once.{once, once_at, typed_once}
 use Rattle.kt_check_rules.proofs.OnceRules as rules
@@ -17,7 +14,8 @@ use Rattle.kt_check_rules.proofs.OnceRules as rules
 pub one_typing : OneTyping
 one_typing K e s w u v a b y z = once (typed_once K (Typed K e) (rules.typed K e)) refl refl y z
 
-direct : (K : Context) (d : Direct) (s t : State) (o q : Bool) (u v : StatementForm) (a b : State) (g h : Bool) → s ≡ t → o ≡ q → IsDirect K d s o u a g → IsDirect K d t q v b h → (u ≡ v) × (a ≡ b) × (g ≡ h)
+direct : (K : Context) (d : Direct) (s t : State) (o q : Bool) (u v : StatementForm) (a b : State) (g h : Bool) →
+    s ≡ t → o ≡ q → IsDirect K d s o u a g → IsDirect K d t q v b h → (u ≡ v) × (a ≡ b) × (g ≡ h)
 direct K (statement x) s t o q u v a b g h p e y z =
     let r = once_at (rules.statement K x) p y.typed z.typed in
     (r.0, r.1, y.ends ∙ rw (e, r.0) refl ∙ sym z.ends)
@@ -27,7 +25,8 @@ direct K (value at x) s t o q u v a b g h p e y z =
 direct K (closing at) s t o q u v a b g h p e y z =
     (y.whole ∙ sym z.whole, y.same ∙ p ∙ sym z.same, y.ends ∙ sym z.ends)
 
-directs : (K : Context) (ds : List Direct) (s t : State) (o q : Bool) (us vs : List StatementForm) (a b : State) → s ≡ t → o ≡ q → AreDirects K ds s o us a → AreDirects K ds t q vs b → (us ≡ vs) × (a ≡ b)
+directs : (K : Context) (ds : List Direct) (s t : State) (o q : Bool) (us vs : List StatementForm) (a b : State) →
+    s ≡ t → o ≡ q → AreDirects K ds s o us a → AreDirects K ds t q vs b → (us ≡ vs) × (a ≡ b)
 directs K [] s t o q us vs a b p e y z = (y.0 ∙ sym z.0, y.1 ∙ p ∙ sym z.1)
 directs K (d ∷ ds) s t o q us vs a b p e y z =
     let f = direct K d s t o q _ _ _ _ _ _ p e y.first z.first in

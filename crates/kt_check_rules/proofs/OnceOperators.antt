@@ -1,7 +1,6 @@
 -- Literals, names, operators and access have at most one typing where their parts have.
-use Rattle.std.proofs.Common.{ℕ, List, [], ◌∷◌, Option, Some, None, ◌≡◌, refl, ap, ◌∙◌, sym, subst, Bool, true, false}
-use Rattle.std.specs.Prelude.{not, IsTrue}
-use Rattle.kt_types_tree.specs.Types.{TypeForm, or_null}
+use Rattle.std.proofs.Common.{ℕ, List, Option, ◌≡◌, refl, ap, ◌∙◌, sym, subst, Bool, true, false}
+use Rattle.kt_types_tree.specs.Types.{TypeForm}
 use Rattle.kt_tree.specs.declared.bodies.BinaryOperator.{BinaryOperator}
 use Rattle.kt_tree.specs.declared.bodies.BinaryOperator.TheVariants as o
 use Rattle.kt_tree.specs.declared.bodies.PrefixOperator.{PrefixOperator}
@@ -10,15 +9,12 @@ use Rattle.kt_tree.specs.declared.bodies.Literal.{Literal}
 use Rattle.kt_tree.specs.declared.bodies.TextPart.{TextPart}
 use Rattle.kt_typed.specs.declared.operators.TypedOperator.{TypedOperator}
 use Rattle.kt_typed.specs.declared.operators.TypedOperator.TheVariants as op
-use Rattle.kt_typed.specs.Bodies.{ExpressionForm, PartForm, printed}
-use Rattle.kt_flow.specs.Facts.{meet}
-use Rattle.kt_check_rules.specs.Choices.{IsFirst, first_some, pairs}
-use Rattle.kt_check_rules.specs.Kinds.{type_of, boolean_type, present_type, IsCommon}
-use Rattle.kt_check_rules.specs.States.{Context, State, hierarchy, with_facts}
-use Rattle.kt_check_rules.specs.Typings.{Rule, Use, unused, as_value, meeting, IsTyped, GivesOne, GivesIf}
+use Rattle.kt_typed.specs.Bodies.{PartForm, printed}
+use Rattle.kt_check_rules.specs.States.{Context, State, hierarchy}
+use Rattle.kt_check_rules.specs.Typings.{Rule, Use, unused, as_value, meeting}
 use Rattle.kt_check_rules.specs.Literals.{Literals, Templates, TextParts, PrintedParts, can_print, literal_of}
-use Rattle.kt_check_rules.specs.Names.{Names, named}
-use Rattle.kt_check_rules.specs.Operators.{Operations, Equalities, Connectives, Elvises, Binaries, Negations, Nots, AreComparable, HasType, after_test, left_use, value_use, applied}
+use Rattle.kt_check_rules.specs.Names.{Names}
+use Rattle.kt_check_rules.specs.Operators.{Operations, Equalities, Connectives, Elvises, Binaries, Negations, Nots, AreComparable, HasType, left_use, value_use}
 use Rattle.kt_check_rules.specs.Access.{TypeTests, Casts, NotNulls, Elements, Members}
 use Rattle.kt_check_rules.specs.Rules.{Prefixes, NoRule}
 use Rattle.kt_check_rules.proofs.Once.{OnceFor, OnceAt, once, once_at, first_once_of, same_some, gives_one, gives_if, gives_some, typed_once, chosen_once}
@@ -72,7 +68,8 @@ equalities_once K k a b i j = record {
       gives_one _ _ _ _ us vs c d (rw f refl) r.1 y.gives z.gives;
 }
 
-connectives_once : (K : Context) (g : Bool) (k : TypedOperator) (a b : Rule) → OnceFor a → OnceFor b → OnceFor (Connectives K g k a b)
+connectives_once : (K : Context) (g : Bool) (k : TypedOperator) (a b : Rule) → OnceFor a → OnceFor b →
+    OnceFor (Connectives K g k a b)
 connectives_once K g k a b i j = record {
   all = λ s t w x us vs c d p q y z.
       let l = once (typed_once K a i) p refl y.left z.left in
@@ -80,12 +77,14 @@ connectives_once K g k a b i j = record {
       gives_one _ _ _ _ us vs c d (rw (l.0, r.0) refl) (rw (l.0, l.1, r.1) refl) y.gives z.gives;
 }
 
-common_type : (K : Context) (w : Use) (ts : List TypeForm) (u v : TypeForm) → HasType K w ts u → HasType K w ts v → u ≡ v
+common_type : (K : Context) (w : Use) (ts : List TypeForm) (u v : TypeForm) → HasType K w ts u → HasType K w ts v →
+    u ≡ v
 common_type K (meeting t) ts u v y z = y ∙ sym z
 common_type K as_value ts u v y z = first_once_of _ ts ts u v refl y z
 common_type K unused ts u v y z = first_once_of _ ts ts u v refl y z
 
-pub type_once : (K : Context) (w x : Use) (ts us : List TypeForm) (u v : TypeForm) → w ≡ x → ts ≡ us → HasType K w ts u → HasType K x us v → u ≡ v
+pub type_once : (K : Context) (w x : Use) (ts us : List TypeForm) (u v : TypeForm) → w ≡ x → ts ≡ us →
+    HasType K w ts u → HasType K x us v → u ≡ v
 type_once K w x ts us u v e f y z =
     common_type K w ts u v y (subst (λ w. HasType K w ts v) (sym e) (subst (λ ts. HasType K x ts v) (sym f) z))
 
@@ -134,7 +133,8 @@ nots_once K e i = record {
       gives_one _ _ _ _ us vs a b (rw r.0 refl) r.1 y.gives z.gives;
 }
 
-pub prefixes_once : (K : Context) (o : PrefixOperator) (e : Rule) (inner : Use → Use) → OnceFor e → OnceFor (Prefixes K o e inner)
+pub prefixes_once : (K : Context) (o : PrefixOperator) (e : Rule) (inner : Use → Use) → OnceFor e →
+    OnceFor (Prefixes K o e inner)
 prefixes_once K before.Negate e inner i = negations_once e inner i
 prefixes_once K before.Not e inner i = nots_once K e i
 

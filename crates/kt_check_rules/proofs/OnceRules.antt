@@ -1,15 +1,14 @@
 -- A tree has at most one typing.
-use Rattle.std.proofs.Common.{ℕ, List, Option, Some, None, ◌≡◌, refl, Bool}
+use Rattle.std.proofs.Common.{ℕ, List, Option, Bool}
 use Rattle.kt_base.specs.declared.refusals.Pos.{Pos}
 use Rattle.kt_tree.specs.declared.bodies.AssignmentOperator.{AssignmentOperator}
 use Rattle.kt_tree.specs.declared.bodies.StepOperator.{StepOperator}
 use Rattle.kt_tree.specs.Types.{TypeTree}
 use Rattle.kt_tree.specs.Bodies.{ExpressionTree, literal, template, name, this, parenthesized, lambda, prefix, binary, type_check, cast, not_null, member, index, call, if_else, when, try_catch, throw, return, break, continue}
 use Rattle.kt_tree.specs.Bodies.{ExpressionTrees, expressions_end, expression_then, MaybeExpression, no_expression, some_expression, PartTree, text, name_part, this_part, hole, PartTrees, parts_end, part_then}
-use Rattle.kt_tree.specs.Bodies.{EntryTree, entry, EntryTrees, entries_end, entry_then, ConditionTree, equals, of_type, ConditionTrees, conditions_end, condition_then}
+use Rattle.kt_tree.specs.Bodies.{entry, EntryTrees, entries_end, entry_then, ConditionTree, equals, of_type, ConditionTrees, conditions_end, condition_then}
 use Rattle.kt_tree.specs.Bodies.{BodyTree, braces, single, MaybeBody, no_body, some_body, BlockTree, block, StatementTree, local, assign, step, while, do_while, for, evaluate, StatementTrees, statements_end, statement_then}
 use Rattle.kt_check_rules.specs.States.{Context, meaning}
-use Rattle.kt_check_rules.specs.Typings.{Rule}
 use Rattle.kt_check_rules.specs.Literals.{behind_minus}
 use Rattle.kt_check_rules.specs.Names.{Names}
 use Rattle.kt_check_rules.specs.Calls.{callable, count}
@@ -37,11 +36,13 @@ mutual
   typed K (not_null at e) = not_nulls_once K (Typed K e) (typed K e)
   typed K (member at e n x) = members_once (Typed K e) n x (typed K e)
   typed K (index at a i) = elements_once (Typed K a) (Typed K i) (typed K a) (typed K i)
-  typed K (call at (name place x) ts es) = calls_once (callable K x ts (count es)) (TypedAll K es) (suffix_of at) (arguments K es)
+  typed K (call at (name place x) ts es) = calls_once (callable K x ts (count es)) (TypedAll K es) (suffix_of at)
+      (arguments K es)
   typed K (call at (member place e n x) ts es) =
       method_calls_once K (Typed K e) n x ts (count es) (TypedAll K es) (suffix_of at) (typed K e) (arguments K es)
   typed K (call at f ts es) = no_rule_once
-  typed K (if_else at e x y) = ifs_once K (Typed K e) (TypedBody K x) (TypedElse K y) (typed K e) (branch K x) (otherwise K y)
+  typed K (if_else at e x y) = ifs_once K (Typed K e) (TypedBody K x) (TypedElse K y) (typed K e) (branch K x)
+      (otherwise K y)
   typed K (when at no_expression es) = whens_without_once K (TypedEntries K es) (entries K es)
   typed K (when at (some_expression e) es) = whens_once K (Typed K e) (TypedEntries K es) (typed K e) (entries K es)
   typed K (try_catch at x cs f) = no_rule_once
@@ -68,7 +69,8 @@ mutual
   entries : (K : Context) (es : EntryTrees) → OnceEntries (TypedEntries K es)
   entries K entries_end = no_entries_once
   entries K (entry_then (entry cs x) es) =
-      entry_then_once K (TypedConditions K cs) (TypedBody K x) (TypedEntries K es) (conditions K cs) (branch K x) (entries K es)
+      entry_then_once K (TypedConditions K cs) (TypedBody K x) (TypedEntries K es) (conditions K cs) (branch K x)
+      (entries K es)
 
   conditions : (K : Context) (cs : ConditionTrees) → OnceConditions (TypedConditions K cs)
   conditions K conditions_end = no_conditions_once
@@ -92,15 +94,20 @@ mutual
 
   alone : (K : Context) (x : StatementTree) → OnceLines (TypedSingle K x)
   alone K (evaluate at e) = last_line_once K at (Typed K e) (typed K e)
-  alone K (local at var x t e) = line_then_once (TypedLocal K at var x t e) (NoLines K) (declaration K at var x t e) (no_lines_once K)
+  alone K (local at var x t e) = line_then_once (TypedLocal K at var x t e) (NoLines K)
+      (declaration K at var x t e) (no_lines_once K)
   alone K (assign at e o a) =
-      line_then_once (TypedAssignment K at o e (Typed K a)) (NoLines K) (assignment K at o e a (typed K a)) (no_lines_once K)
+      line_then_once (TypedAssignment K at o e (Typed K a)) (NoLines K) (assignment K at o e a (typed K a))
+      (no_lines_once K)
   alone K (step at e o) = line_then_once (TypedStep K at o e) (NoLines K) (stepping K at o e) (no_lines_once K)
-  alone K (while at e x) = line_then_once _ (NoLines K) (whiles_once K at (Typed K e) (TypedBody K x) (typed K e) (branch K x)) (no_lines_once K)
+  alone K (while at e x) = line_then_once _ (NoLines K) (whiles_once K at (Typed K e) (TypedBody K x) (typed K e)
+      (branch K x)) (no_lines_once K)
   alone K (do_while at x e) =
-      line_then_once _ (NoLines K) (do_whiles_once K at (TypedBlockLines K x) (Typed K e) (block_lines K x) (typed K e)) (no_lines_once K)
+      line_then_once _ (NoLines K) (do_whiles_once K at (TypedBlockLines K x) (Typed K e) (block_lines K x)
+      (typed K e)) (no_lines_once K)
   alone K (for at x a o c b) =
-      line_then_once _ (NoLines K) (fors_once at x o (Typed K a) (Typed K c) (TypedBody K b) (typed K a) (typed K c) (branch K b)) (no_lines_once K)
+      line_then_once _ (NoLines K) (fors_once at x o (Typed K a) (Typed K c) (TypedBody K b) (typed K a)
+      (typed K c) (branch K b)) (no_lines_once K)
 
   lines : (K : Context) (ss : StatementTrees) → OnceLines (TypedLines K ss)
   lines K statements_end = no_lines_once K
@@ -116,14 +123,17 @@ mutual
   statement K (step at e o) = stepping K at o e
   statement K (while at e x) = whiles_once K at (Typed K e) (TypedBody K x) (typed K e) (branch K x)
   statement K (do_while at x e) = do_whiles_once K at (TypedBlockLines K x) (Typed K e) (block_lines K x) (typed K e)
-  statement K (for at x a o c b) = fors_once at x o (Typed K a) (Typed K c) (TypedBody K b) (typed K a) (typed K c) (branch K b)
+  statement K (for at x a o c b) = fors_once at x o (Typed K a) (Typed K c) (TypedBody K b) (typed K a) (typed K c)
+      (branch K b)
   statement K (evaluate at e) = evaluations_once K at (Typed K e) (typed K e)
 
-  declaration : (K : Context) (at : Pos) (var : Bool) (x : List ℕ) (t : Option TypeTree) (e : MaybeExpression) → OnceAt (TypedLocal K at var x t e)
+  declaration : (K : Context) (at : Pos) (var : Bool) (x : List ℕ) (t : Option TypeTree) (e : MaybeExpression) →
+      OnceAt (TypedLocal K at var x t e)
   declaration K at var x t no_expression = bare_once K at var x t
   declaration K at var x t (some_expression e) = initialized_once K at var x t (Typed K e) (typed K e)
 
-  assignment : (K : Context) (at : Pos) (o : AssignmentOperator) (target a : ExpressionTree) → OnceFor (Typed K a) → OnceAt (TypedAssignment K at o target (Typed K a))
+  assignment : (K : Context) (at : Pos) (o : AssignmentOperator) (target a : ExpressionTree) → OnceFor (Typed K a) →
+      OnceAt (TypedAssignment K at o target (Typed K a))
   assignment K at o (name place x) e i = local_assignments_once K at x (applied_by o) (Typed K e) i
   assignment K at o (index place a j) e i =
       element_assignments_once K at (Typed K a) (Typed K j) (applied_by o) (Typed K e) (typed K a) (typed K j) i

@@ -1,19 +1,19 @@
 -- A file is refused at one place at most, and not where it has a typed unit.
-use Rattle.std.proofs.Common.{ℕ, zero, suc, ◌+◌, ◌-◌, ◌≤◌, ◌<◌, arith, List, [], ◌∷◌, Option, Some, None, ◌≡◌, refl, ap, ◌∙◌, sym, subst, length, take, Bool, true, false, inl, inr, ◌⊎◌}
+use Rattle.std.proofs.Common.{ℕ, zero, suc, ◌+◌, ◌-◌, ◌<◌, arith, List, [], ◌∷◌, Some, ◌≡◌, refl, ap, ◌∙◌, sym, length, take, Bool, inl, inr, ◌⊎◌}
 use Rattle.std.specs.Prelude.{slice_get}
 use Rattle.std.proofs.lemmas.Bool.{cases_order}
 use Rattle.kt_base.specs.declared.refusals.Pos.{Pos}
 use Rattle.kt_typed.specs.Bodies.{StatementForm, FunForm}
-use Rattle.kt_typed.specs.Units.{UnitForm}
 use Rattle.kt_check_rules.specs.States.{Context, State}
 use Rattle.kt_check_rules.specs.Bodies.{Direct, AreDirects, Body, IsBody, AreBodies, place_of}
-use Rattle.kt_check_rules.specs.Units.{File, bodies, IsUnit, has_main}
-use Rattle.kt_check_rules.specs.Place.{directs, with_directs, cut, IsFirstDirect, FailsAt, HasNoTyping, IsRefused, at_statement, without_main}
+use Rattle.kt_check_rules.specs.Units.{bodies}
+use Rattle.kt_check_rules.specs.Place.{directs, with_directs, FailsAt, HasNoTyping, at_statement, without_main}
 use Rattle.kt_check_rules.specs.Laws.{OnePlace, NotBoth, CutsHaveTyping}
 
 -- what has a typing has one when it is cut
 
-directs_cut : (K : Context) (ds : List Direct) (n : ℕ) (s : State) (o : Bool) (us : List StatementForm) (a : State) → AreDirects K ds s o us a → (vs : List StatementForm) × (b : State) × AreDirects K (take n ds) s o vs b
+directs_cut : (K : Context) (ds : List Direct) (n : ℕ) (s : State) (o : Bool) (us : List StatementForm) (a : State)
+    → AreDirects K ds s o us a → (vs : List StatementForm) × (b : State) × AreDirects K (take n ds) s o vs b
 directs_cut K ds zero s o us a y = ([], s, (refl, refl))
 directs_cut K [] (suc n) s o us a y = ([], s, (refl, refl))
 directs_cut K (d ∷ ds) (suc n) s o us a y =
@@ -45,7 +45,8 @@ cuts_have_typing n (b ∷ bs) fs (f, more, (y, (ys, e))) =
 
 -- one place
 
-pub first_place : (Fails : List Body → Type 0) (bs : List Body) (p q : Pos) → FailsAt Fails bs p → FailsAt Fails bs q → p ≡ q
+pub first_place : (Fails : List Body → Type 0) (bs : List Body) (p q : Pos) → FailsAt Fails bs p →
+    FailsAt Fails bs q → p ≡ q
 first_place Fails bs p q y z = place_in_order (cases_order y.n z.n)
   where
     place_in_order : (y.n ≡ z.n) ⊎ (y.n < z.n) ⊎ (z.n < y.n) → p ≡ q

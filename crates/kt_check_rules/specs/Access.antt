@@ -1,19 +1,19 @@
 -- Type tests, casts, `!!`, elements and members (Kotlin specification, "Type-checking and containment-checking
 -- expressions", "Cast expressions", "Postfix operator expressions", "Navigation operators").
-use Rattle.std.specs.Prelude.{ℕ, Bool, true, false, List, [], ◌∷◌, codes, Option, Some, None, ◌≡◌, IsTrue, if◌then◌else◌}
+use Rattle.std.specs.Prelude.{ℕ, Bool, true, false, List, codes, Option, Some, None, ◌≡◌, IsTrue}
 use Rattle.kt_types_tree.specs.declared.types.TypeConstructor.TheVariants as c
 use Rattle.kt_types_tree.specs.Types.{TypeForm, typed, of, or_null, forms_end, form_then}
-use Rattle.kt_typed.specs.declared.operators.Width.TheVariants as width
 use Rattle.kt_typed.specs.declared.operators.TypedProperty.{TypedProperty}
 use Rattle.kt_typed.specs.declared.operators.TypedProperty.TheVariants as of_type
 use Rattle.kt_typed.specs.Bodies.{ExpressionForm, type_test, cast, not_null, index, property, ReceiverForm, plain, safe}
 use Rattle.kt_check_rules.specs.Choices.{first_some, pairs}
-use Rattle.kt_check_rules.specs.Kinds.{type_of, int_type, char_type, boolean_type, width_of, without_null, present_type, is_testable}
+use Rattle.kt_check_rules.specs.Kinds.{type_of, int_type, char_type, boolean_type, without_null, present_type, is_testable}
 use Rattle.kt_check_rules.specs.States.{Context, State, hierarchy, is_name}
 use Rattle.kt_check_rules.specs.Typings.{Rule, Use, as_value, IsTyped, GivesOne, GivesIf}
 
 -- the type is what is written means, where it has a meaning
-pub record TypeTests (K : Context) (e : Rule) (is_negated : Bool) (meant : Option TypeForm) (s : State) (w : Use) (us : List ExpressionForm) (behind : State) : Type 0 where
+pub record TypeTests (K : Context) (e : Rule) (is_negated : Bool) (meant : Option TypeForm) (s : State) (w : Use)
+    (us : List ExpressionForm) (behind : State) : Type 0 where
   pub u : ExpressionForm
   pub tested : TypeForm
   pub end : State
@@ -23,7 +23,8 @@ pub record TypeTests (K : Context) (e : Rule) (is_negated : Bool) (meant : Optio
   pub gives : GivesOne (type_test boolean_type u is_negated tested) end us behind
 
 -- `as?` gives null where `as` throws
-pub record Casts (K : Context) (e : Rule) (gives_null : Bool) (meant : Option TypeForm) (s : State) (w : Use) (us : List ExpressionForm) (behind : State) : Type 0 where
+pub record Casts (K : Context) (e : Rule) (gives_null : Bool) (meant : Option TypeForm) (s : State) (w : Use)
+    (us : List ExpressionForm) (behind : State) : Type 0 where
   pub u : ExpressionForm
   pub wanted : TypeForm
   pub end : State
@@ -32,7 +33,8 @@ pub record Casts (K : Context) (e : Rule) (gives_null : Bool) (meant : Option Ty
   pub allowed : IsTrue (is_testable (hierarchy K) wanted)
   pub gives : GivesOne (cast (or_null gives_null wanted) u gives_null wanted) end us behind
 
-pub record NotNulls (K : Context) (e : Rule) (s : State) (w : Use) (us : List ExpressionForm) (behind : State) : Type 0 where
+pub record NotNulls (K : Context) (e : Rule) (s : State) (w : Use) (us : List ExpressionForm) (behind : State)
+    : Type 0 where
   pub u : ExpressionForm
   pub end : State
   pub operand : IsTyped K e s as_value u end
@@ -104,7 +106,8 @@ read_member is_safe u (Some p) = Some (property (or_null is_safe p.1) (receiver 
 abbrev pub member_read : Bool → List ℕ → ExpressionForm → Option ExpressionForm
 member_read is_safe x u = read_member is_safe u (member_of (asked_of is_safe (type_of u)) x)
 
-pub record Members (e : Rule) (is_safe : Bool) (x : List ℕ) (s : State) (w : Use) (us : List ExpressionForm) (behind : State) : Type 0 where
+pub record Members (e : Rule) (is_safe : Bool) (x : List ℕ) (s : State) (w : Use) (us : List ExpressionForm)
+    (behind : State) : Type 0 where
   pub receivers : List ExpressionForm
   pub end : State
   pub of_what : e s as_value receivers end

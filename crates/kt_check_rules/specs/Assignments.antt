@@ -1,5 +1,5 @@
 -- Assignments (Kotlin specification, "Assignments", "Prefix increment expressions" to "Postfix decrement expressions").
-use Rattle.std.specs.Prelude.{ℕ, Bool, true, false, not, List, [], ◌∷◌, slice_get, Option, Some, None, ◌≡◌, ◌&&◌, IsTrue, nat_le, find, if◌then◌else◌}
+use Rattle.std.specs.Prelude.{ℕ, Bool, true, false, not, List, slice_get, Option, Some, None, ◌≡◌, ◌&&◌, IsTrue, nat_le}
 use Rattle.kt_base.specs.declared.refusals.Pos.{Pos}
 use Rattle.kt_tree.specs.declared.bodies.AssignmentOperator.{AssignmentOperator}
 use Rattle.kt_tree.specs.declared.bodies.AssignmentOperator.TheVariants as by
@@ -14,13 +14,13 @@ use Rattle.kt_typed.specs.declared.operators.LocalKind.{LocalKind}
 use Rattle.kt_typed.specs.declared.operators.LocalKind.TheVariants as kind
 use Rattle.kt_typed.specs.declared.operators.TypedOperator.{TypedOperator}
 use Rattle.kt_typed.specs.Operators.{LocalForm}
-use Rattle.kt_typed.specs.Bodies.{ExpressionForm, StatementForm, assign, step, TargetForm, local_target, element_target}
+use Rattle.kt_typed.specs.Bodies.{ExpressionForm, StatementForm, assign, step, local_target, element_target}
 use Rattle.kt_check_rules.specs.Choices.{first_some, pairs, then_on}
 use Rattle.kt_check_rules.specs.Kinds.{type_of, width_of}
 use Rattle.kt_check_rules.specs.States.{Context, State, hierarchy, local_named, assigned}
 use Rattle.kt_check_rules.specs.Operators.{operation}
 use Rattle.kt_check_rules.specs.Access.{element_type, at_int}
-use Rattle.kt_check_rules.specs.Typings.{Rule, StatementRule, Use, as_value, meeting, IsTyped}
+use Rattle.kt_check_rules.specs.Typings.{Rule, as_value, meeting, IsTyped}
 
 -- the operator that an assignment applies to the old value
 abbrev pub applied_by : AssignmentOperator → Option BinaryOperator
@@ -39,7 +39,8 @@ abbrev pub combined : HierarchyForm → BinaryOperator → TypeForm → Expressi
 combined h k t u = then_on (operation h k t (type_of u)) (λ f. Some (u, f.0, f.1))
 
 -- the operation on an old value of a type and the new expression gives a value of that type
-pub record Combines (K : Context) (k : BinaryOperator) (e : Rule) (t : TypeForm) (s : State) (f : Option TypedOperator) (u : ExpressionForm) (behind : State) : Type 0 where
+pub record Combines (K : Context) (k : BinaryOperator) (e : Rule) (t : TypeForm) (s : State)
+    (f : Option TypedOperator) (u : ExpressionForm) (behind : State) : Type 0 where
   pub typings : List ExpressionForm
   pub chosen : Combination
   pub reads : e s as_value typings behind
@@ -72,7 +73,8 @@ pub record IsLocal (x : List ℕ) (s : State) (n : ℕ) (l : LocalForm) : Type 0
   pub number : local_named s.scope x ≡ Some n
   pub known : slice_get s.book.locals n ≡ Some l
 
-pub record LocalAssignments (K : Context) (at : Pos) (x : List ℕ) (k : Option BinaryOperator) (e : Rule) (s : State) (y : StatementForm) (behind : State) : Type 0 where
+pub record LocalAssignments (K : Context) (at : Pos) (x : List ℕ) (k : Option BinaryOperator) (e : Rule)
+    (s : State) (y : StatementForm) (behind : State) : Type 0 where
   pub n : ℕ
   pub l : LocalForm
   pub f : Option TypedOperator
@@ -85,7 +87,8 @@ pub record LocalAssignments (K : Context) (at : Pos) (x : List ℕ) (k : Option 
   pub whole : y ≡ assign at (local_target n) f u
   pub after : behind ≡ assigned n end
 
-pub record LocalSteps (at : Pos) (x : List ℕ) (k : StepOperator) (s : State) (y : StatementForm) (behind : State) : Type 0 where
+pub record LocalSteps (at : Pos) (x : List ℕ) (k : StepOperator) (s : State) (y : StatementForm) (behind : State)
+    : Type 0 where
   pub n : ℕ
   pub l : LocalForm
   pub width : Width
@@ -116,7 +119,8 @@ pub record IsElement (a i : Rule) (s : State) (place : Element) (behind : State)
   pub index : i between as_value indices behind
   pub first : first_some element_at (pairs arrays indices) ≡ Some place
 
-pub record ElementAssignments (K : Context) (at : Pos) (a i : Rule) (k : Option BinaryOperator) (e : Rule) (s : State) (y : StatementForm) (behind : State) : Type 0 where
+pub record ElementAssignments (K : Context) (at : Pos) (a i : Rule) (k : Option BinaryOperator) (e : Rule)
+    (s : State) (y : StatementForm) (behind : State) : Type 0 where
   pub place : Element
   pub f : Option TypedOperator
   pub u : ExpressionForm
@@ -125,7 +129,8 @@ pub record ElementAssignments (K : Context) (at : Pos) (a i : Rule) (k : Option 
   pub new : NewValue K k e place.2 between f u behind
   pub whole : y ≡ assign at (element_target place.0 place.1) f u
 
-pub record ElementSteps (at : Pos) (a i : Rule) (k : StepOperator) (s : State) (y : StatementForm) (behind : State) : Type 0 where
+pub record ElementSteps (at : Pos) (a i : Rule) (k : StepOperator) (s : State) (y : StatementForm) (behind : State)
+    : Type 0 where
   pub place : Element
   pub width : Width
   pub is : IsElement a i s place behind

@@ -1,7 +1,6 @@
 -- Bodies: what stands directly in them, and its typing.
-use Rattle.std.specs.Prelude.{ℕ, Bool, true, false, not, List, [], ◌∷◌, ◌++◌, length, ◌≡◌, ◌&&◌, ◌||◌, IsTrue}
+use Rattle.std.specs.Prelude.{Bool, true, false, not, List, [], ◌∷◌, length, ◌≡◌, ◌&&◌, ◌||◌, IsTrue}
 use Rattle.kt_base.specs.declared.refusals.Pos.{Pos}
-use Rattle.kt_tree.specs.Bodies as tree
 use Rattle.kt_tree.specs.Bodies.{ExpressionTree, literal, template, name, this, parenthesized, lambda, prefix, binary, type_check, cast, not_null, member, index, call, if_else, when, try_catch, throw, return, break, continue}
 use Rattle.kt_tree.specs.Bodies.{StatementTree, local, assign, step, while, do_while, for, evaluate, StatementTrees, statements_end, statement_then, block}
 use Rattle.kt_tree.specs.Declarations as declared
@@ -14,7 +13,7 @@ use Rattle.kt_flow.specs.Facts.{no_facts}
 use Rattle.kt_check_rules.specs.Kinds.{is_unit}
 use Rattle.kt_check_rules.specs.States.{Context, State, next_local, declaring, assigned, entering}
 use Rattle.kt_check_rules.specs.Completion.{statement_completes}
-use Rattle.kt_check_rules.specs.Typings.{Rule, StatementRule, meeting, IsTyped}
+use Rattle.kt_check_rules.specs.Typings.{meeting, IsTyped}
 use Rattle.kt_check_rules.specs.Rules.{Typed, TypedStatement}
 
 -- What a body holds directly: statements and the closing brace, or the expression behind `=`. Arguments of a superclass
@@ -81,19 +80,22 @@ pub record Body : Type 0 where
 abbrev pub DirectRule : Type 1
 DirectRule = State → Bool → StatementForm → State → Bool → Type 0
 
-pub record DirectStatements (K : Context) (x : StatementTree) (s : State) (reached : Bool) (y : StatementForm) (behind : State) (goes_on : Bool) : Type 0 where
+pub record DirectStatements (K : Context) (x : StatementTree) (s : State) (reached : Bool) (y : StatementForm)
+    (behind : State) (goes_on : Bool) : Type 0 where
   pub typed : TypedStatement K x s y behind
   pub ends : goes_on ≡ (reached && statement_completes K.headers y)
 
 -- the expression behind `=` meets the result
-pub record DirectValues (K : Context) (at : Pos) (e : ExpressionTree) (s : State) (y : StatementForm) (behind : State) (goes_on : Bool) : Type 0 where
+pub record DirectValues (K : Context) (at : Pos) (e : ExpressionTree) (s : State) (y : StatementForm)
+    (behind : State) (goes_on : Bool) : Type 0 where
   pub u : ExpressionForm
   pub typed : IsTyped K (Typed K e) s (meeting K.result) u behind
   pub whole : y ≡ form.result at u
   pub ends : goes_on ≡ false
 
 -- a body ends without a result only where that is `Unit`
-pub record ClosingBraces (K : Context) (at : Pos) (s : State) (reached : Bool) (y : StatementForm) (behind : State) (goes_on : Bool) : Type 0 where
+pub record ClosingBraces (K : Context) (at : Pos) (s : State) (reached : Bool) (y : StatementForm) (behind : State)
+    (goes_on : Bool) : Type 0 where
   pub allowed : IsTrue (not reached || is_unit K.result)
   pub whole : y ≡ form.end at
   pub same : behind ≡ s
@@ -107,7 +109,8 @@ IsDirect K (closing at) s reached y behind goes_on = ClosingBraces K at s reache
 abbrev pub DirectsRule : Type 1
 DirectsRule = State → Bool → List StatementForm → State → Type 0
 
-pub record DirectThen (one : DirectRule) (others : DirectsRule) (s : State) (reached : Bool) (ys : List StatementForm) (behind : State) : Type 0 where
+pub record DirectThen (one : DirectRule) (others : DirectsRule) (s : State) (reached : Bool)
+    (ys : List StatementForm) (behind : State) : Type 0 where
   pub y : StatementForm
   pub more : List StatementForm
   pub between : State
@@ -132,7 +135,8 @@ empty_state =
 
 abbrev pub with_parameters : List ParameterForm → State → State
 with_parameters [] s = s
-with_parameters (p ∷ ps) s = with_parameters ps (assigned (next_local s) (declaring p.name kind.Parameter p.annotation s))
+with_parameters (p ∷ ps) s = with_parameters ps (assigned (next_local s)
+    (declaring p.name kind.Parameter p.annotation s))
 
 -- the block of a body is a scope inside that of the parameters
 abbrev pub begun : Body → State
@@ -144,7 +148,8 @@ pub record IsBody (b : Body) (f : FunForm) : Type 0 where
   pub are : AreDirects b.context b.directs (begun b) true statements end
   pub whole :
       f
-      ≡ fun b.at b.context.is_suspend [] (length b.parameters) end.book.locals b.context.result (statements_of statements)
+      ≡ fun b.at b.context.is_suspend [] (length b.parameters)
+      end.book.locals b.context.result (statements_of statements)
 
 -- the bodies of a file, in text order
 abbrev pub AreBodies : List Body → List FunForm → Type 0

@@ -1,5 +1,5 @@
 -- Calls (Kotlin specification, "Function calls and property access", "Overload resolution").
-use Rattle.std.specs.Prelude.{ℕ, zero, suc, Bool, true, false, not, List, [], ◌∷◌, ◌+◌, ◌==◌, ◌&&◌, codes, length, map, Option, Some, None, ◌≡◌, if◌then◌else◌}
+use Rattle.std.specs.Prelude.{ℕ, zero, suc, Bool, true, false, List, [], ◌∷◌, ◌+◌, ◌==◌, ◌&&◌, codes, length, map, Option, Some, None, ◌≡◌, if◌then◌else◌}
 use Rattle.kt_base.specs.declared.refusals.Pos.{Pos}
 use Rattle.kt_tree.specs.Types.{TypeTree}
 use Rattle.kt_tree.specs.Bodies as tree
@@ -165,7 +165,8 @@ callable K x ts k = or_else (function_named K 0 K.headers.functions x ts k) (bui
 abbrev pub called : Callable → List ExpressionForm → Pos → ExpressionForm
 called f us suffix = call f.result (call_of f.callee f.type_arguments (expressions_of us) f.suspends suffix)
 
-pub record Calls (found : Option Callable) (arguments : ArgumentsRule) (suffix : Pos) (s : State) (w : Use) (us : List ExpressionForm) (behind : State) : Type 0 where
+pub record Calls (found : Option Callable) (arguments : ArgumentsRule) (suffix : Pos) (s : State) (w : Use)
+    (us : List ExpressionForm) (behind : State) : Type 0 where
   pub chosen : Callable
   pub values : List ExpressionForm
   pub end : State
@@ -236,7 +237,9 @@ abbrev pub maybe_left_out : Bool → FactsForm → FactsForm → FactsForm
 maybe_left_out true f g = meet f g
 maybe_left_out false f g = g
 
-pub record MethodCalls (K : Context) (e : Rule) (is_safe : Bool) (x : List ℕ) (ts : List TypeTree) (k : ℕ) (arguments : ArgumentsRule) (suffix : Pos) (s : State) (w : Use) (us : List ExpressionForm) (behind : State) : Type 0 where
+pub record MethodCalls (K : Context) (e : Rule) (is_safe : Bool) (x : List ℕ) (ts : List TypeTree) (k : ℕ)
+    (arguments : ArgumentsRule) (suffix : Pos) (s : State) (w : Use) (us : List ExpressionForm) (behind : State)
+    : Type 0 where
   pub receivers : List ExpressionForm
   pub chosen : Callable
   pub values : List ExpressionForm

@@ -1,5 +1,5 @@
 -- What completes: after which expressions and statements the text goes on.
-use Rattle.std.specs.Prelude.{ℕ, zero, suc, Bool, true, false, not, List, [], ◌∷◌, length, slice_get, Option, Some, None, ◌==◌, ◌&&◌, ◌||◌, if◌then◌else◌}
+use Rattle.std.specs.Prelude.{ℕ, zero, suc, Bool, true, false, not, length, slice_get, Option, Some, None, ◌==◌, ◌&&◌, ◌||◌}
 use Rattle.kt_types_tree.specs.declared.types.TypeConstructor.TheVariants as c
 use Rattle.kt_types_tree.specs.Types.{TypeForm, typed, of}
 use Rattle.kt_typed.specs.declared.operators.TypedLiteral.TheVariants as is
@@ -193,7 +193,8 @@ is_always e = is_truth true e
 -- Whether something completes.
 
 abbrev mutual
-  -- An `if` with `else` and a `when` that names every value complete where a branch does; a `try` where `finally` does and
+  -- An `if` with `else` and a `when` that names every value complete where a branch does; a `try` where `finally`
+  -- does and
   -- its block or a catch. Any other expression completes unless it is of type `Nothing`.
   pub completes : HeadersForm → ExpressionForm → Bool
   completes h (if_else t e x y) = block_completes h x || else_completes h y

@@ -1,18 +1,18 @@
 -- Blocks and branches (Kotlin specification, "Code blocks", "Conditional expressions", "When expressions").
-use Rattle.std.specs.Prelude.{ℕ, Bool, true, false, not, List, [], ◌∷◌, ◌++◌, Option, Some, None, ◌≡◌, ◌||◌, IsTrue, find, if◌then◌else◌}
+use Rattle.std.specs.Prelude.{Bool, true, false, List, [], ◌∷◌, ◌++◌, Option, Some, None, ◌≡◌, IsTrue, find}
 use Rattle.kt_base.specs.declared.refusals.Pos.{Pos}
 use Rattle.kt_types_tree.specs.Types.{TypeForm}
 use Rattle.kt_types_order.specs.Below.{IsBelow}
 use Rattle.kt_typed.specs.declared.operators.TypedOperator.TheVariants as op
 use Rattle.kt_typed.specs.Bodies as t
 use Rattle.kt_typed.specs.Bodies.{ExpressionForm, binary, type_test, MaybeExpression, no_expression, some_expression, EntryForm, entry, EntryForms, entries_of, ConditionForm, equals, holds, of_type, conditions_of, BlockForm, block, MaybeBlock, no_block, some_block, StatementForm, evaluate, statements_of}
-use Rattle.kt_flow.specs.Facts.{FactsForm, meet_all}
+use Rattle.kt_flow.specs.Facts.{FactsForm}
 use Rattle.kt_check_rules.specs.Choices.{IsFirst, pairs, or_else, first_of}
 use Rattle.kt_check_rules.specs.Kinds.{type_of, unit_type, boolean_type, is_testable}
 use Rattle.kt_check_rules.specs.States.{Context, State, hierarchy, entering, leaving, with_facts, Path, path, joined, met}
 use Rattle.kt_check_rules.specs.Completion.{block_completes, is_exhaustive, names_all}
 use Rattle.kt_check_rules.specs.Operators.{AreComparable, HasType, after_test}
-use Rattle.kt_check_rules.specs.Typings.{Rule, StatementRule, BlockRule, Use, unused, as_value, meeting, IsTyped, GivesOne, IsNone}
+use Rattle.kt_check_rules.specs.Typings.{Rule, StatementRule, BlockRule, Use, unused, as_value, meeting, IsTyped, GivesOne}
 
 -- Blocks.
 
@@ -26,13 +26,15 @@ MeetsUnit K (meeting t) = IsBelow (hierarchy K) unit_type t
 MeetsUnit K as_value = Unit {0}
 MeetsUnit K unused = Unit {0}
 
-pub record NoLines (K : Context) (s : State) (w : Use) (ss : List StatementForm) (v : MaybeExpression) (behind : State) : Type 0 where
+pub record NoLines (K : Context) (s : State) (w : Use) (ss : List StatementForm) (v : MaybeExpression)
+    (behind : State) : Type 0 where
   pub meets : MeetsUnit K w
   pub none : ss ≡ []
   pub no_value : v ≡ no_expression
   pub same : behind ≡ s
 
-pub record LineThen (one : StatementRule) (others : LinesRule) (s : State) (w : Use) (ss : List StatementForm) (v : MaybeExpression) (behind : State) : Type 0 where
+pub record LineThen (one : StatementRule) (others : LinesRule) (s : State) (w : Use) (ss : List StatementForm)
+    (v : MaybeExpression) (behind : State) : Type 0 where
   pub line : StatementForm
   pub lines : List StatementForm
   pub between : State
@@ -41,13 +43,15 @@ pub record LineThen (one : StatementRule) (others : LinesRule) (s : State) (w : 
   pub whole : ss ≡ line ∷ lines
 
 -- an expression as a statement
-pub record Evaluations (K : Context) (at : Pos) (e : Rule) (s : State) (x : StatementForm) (behind : State) : Type 0 where
+pub record Evaluations (K : Context) (at : Pos) (e : Rule) (s : State) (x : StatementForm) (behind : State)
+    : Type 0 where
   pub u : ExpressionForm
   pub typed : IsTyped K e s unused u behind
   pub whole : x ≡ evaluate at u
 
 -- an expression as the value of a block
-pub record Values (K : Context) (e : Rule) (s : State) (w : Use) (ss : List StatementForm) (v : MaybeExpression) (behind : State) : Type 0 where
+pub record Values (K : Context) (e : Rule) (s : State) (w : Use) (ss : List StatementForm) (v : MaybeExpression)
+    (behind : State) : Type 0 where
   pub u : ExpressionForm
   pub typed : IsTyped K e s w u behind
   pub none : ss ≡ []
@@ -95,14 +99,16 @@ NoElse s unused b ts p behind = (b ≡ no_block) × (ts ≡ []) × (p ≡ path t
 NoElse s as_value b ts p behind = ⊥
 NoElse s (meeting t) b ts p behind = ⊥
 
-pub record Else (K : Context) (body : BlockRule) (s : State) (w : Use) (b : MaybeBlock) (ts : List TypeForm) (p : Path) (behind : State) : Type 0 where
+pub record Else (K : Context) (body : BlockRule) (s : State) (w : Use) (b : MaybeBlock) (ts : List TypeForm)
+    (p : Path) (behind : State) : Type 0 where
   pub x : BlockForm
   pub is : body s w x behind
   pub whole : b ≡ some_block x
   pub types : ts ≡ block_type x ∷ []
   pub ends : p ≡ path_of K x behind
 
-pub record Ifs (K : Context) (test : Rule) (branch : BlockRule) (otherwise : ElseRule) (s : State) (w : Use) (us : List ExpressionForm) (behind : State) : Type 0 where
+pub record Ifs (K : Context) (test : Rule) (branch : BlockRule) (otherwise : ElseRule) (s : State) (w : Use)
+    (us : List ExpressionForm) (behind : State) : Type 0 where
   pub u : ExpressionForm
   pub x : BlockForm
   pub y : MaybeBlock
@@ -130,7 +136,8 @@ abbrev pub ConditionRule : Type 1
 ConditionRule = List ExpressionForm → State → ConditionForm → ExpressionForm → State → Type 0
 
 -- the subject equals it
-pub record Equals (K : Context) (e : Rule) (subject : List ExpressionForm) (s : State) (x : ConditionForm) (asks : ExpressionForm) (behind : State) : Type 0 where
+pub record Equals (K : Context) (e : Rule) (subject : List ExpressionForm) (s : State) (x : ConditionForm)
+    (asks : ExpressionForm) (behind : State) : Type 0 where
   pub values : List ExpressionForm
   pub chosen : ExpressionForm × ExpressionForm
   pub reads : e s as_value values behind
@@ -139,7 +146,8 @@ pub record Equals (K : Context) (e : Rule) (subject : List ExpressionForm) (s : 
   pub question : asks ≡ binary boolean_type op.Equal chosen.0 chosen.1
 
 -- it is true
-pub record Holds (K : Context) (e : Rule) (s : State) (x : ConditionForm) (asks : ExpressionForm) (behind : State) : Type 0 where
+pub record Holds (K : Context) (e : Rule) (s : State) (x : ConditionForm) (asks : ExpressionForm) (behind : State)
+    : Type 0 where
   pub u : ExpressionForm
   pub typed : IsTyped K e s (meeting boolean_type) u behind
   pub whole : x ≡ holds u
@@ -150,7 +158,8 @@ Conditions K e [] s x asks behind = Holds K e s x asks behind
 Conditions K e (u ∷ us) s x asks behind = Equals K e (u ∷ us) s x asks behind
 
 -- the subject is of a type
-pub record OfTypes (K : Context) (is_negated : Bool) (meant : Option TypeForm) (u : ExpressionForm) (s : State) (x : ConditionForm) (asks : ExpressionForm) (behind : State) : Type 0 where
+pub record OfTypes (K : Context) (is_negated : Bool) (meant : Option TypeForm) (u : ExpressionForm) (s : State)
+    (x : ConditionForm) (asks : ExpressionForm) (behind : State) : Type 0 where
   pub tested : TypeForm
   pub means : meant ≡ Some tested
   pub allowed : IsTrue (is_testable (hierarchy K) tested)
@@ -169,7 +178,9 @@ ConditionsRule = List ExpressionForm → State → List ConditionForm → List F
 abbrev pub NoConditions : ConditionsRule
 NoConditions subject s xs holding behind = (xs ≡ []) × (holding ≡ []) × (behind ≡ s)
 
-pub record ConditionThen (K : Context) (one : ConditionRule) (others : ConditionsRule) (subject : List ExpressionForm) (s : State) (xs : List ConditionForm) (holding : List FactsForm) (behind : State) : Type 0 where
+pub record ConditionThen (K : Context) (one : ConditionRule) (others : ConditionsRule)
+    (subject : List ExpressionForm) (s : State) (xs : List ConditionForm) (holding : List FactsForm)
+    (behind : State) : Type 0 where
   pub x : ConditionForm
   pub asks : ExpressionForm
   pub more : List ConditionForm
@@ -188,7 +199,9 @@ abbrev pub NoEntries : EntriesRule
 NoEntries subject s w es ts ps behind = (es ≡ []) × (ts ≡ []) × (ps ≡ []) × (behind ≡ s)
 
 -- `else` has no condition
-pub record EntryThen (K : Context) (conditions : ConditionsRule) (body : BlockRule) (others : EntriesRule) (subject : List ExpressionForm) (s : State) (w : Use) (es : List EntryForm) (ts : List TypeForm) (ps : List Path) (behind : State) : Type 0 where
+pub record EntryThen (K : Context) (conditions : ConditionsRule) (body : BlockRule) (others : EntriesRule)
+    (subject : List ExpressionForm) (s : State) (w : Use) (es : List EntryForm) (ts : List TypeForm)
+    (ps : List Path) (behind : State) : Type 0 where
   pub xs : List ConditionForm
   pub holding : List FactsForm
   pub x : BlockForm
@@ -215,7 +228,9 @@ NamesEnough unused b = Unit {0}
 NamesEnough as_value b = IsTrue b
 NamesEnough (meeting t) b = IsTrue b
 
-pub record WhenRest (K : Context) (entries : EntriesRule) (subject : List ExpressionForm) (shown : EntryForms → MaybeExpression) (s : State) (w : Use) (us : List ExpressionForm) (behind : State) : Type 0 where
+pub record WhenRest (K : Context) (entries : EntriesRule) (subject : List ExpressionForm)
+    (shown : EntryForms → MaybeExpression) (s : State) (w : Use) (us : List ExpressionForm) (behind : State)
+    : Type 0 where
   pub es : List EntryForm
   pub types : List TypeForm
   pub paths : List Path
@@ -250,7 +265,8 @@ no_subject es = no_expression
 abbrev pub WhensWithout : Context → EntriesRule → Rule
 WhensWithout K entries s w us behind = WhenRest K entries [] no_subject s w us behind
 
-pub record Whens (K : Context) (e : Rule) (entries : EntriesRule) (s : State) (w : Use) (us : List ExpressionForm) (behind : State) : Type 0 where
+pub record Whens (K : Context) (e : Rule) (entries : EntriesRule) (s : State) (w : Use) (us : List ExpressionForm)
+    (behind : State) : Type 0 where
   pub subject : List ExpressionForm
   pub between : State
   pub evaluated : e s as_value subject between

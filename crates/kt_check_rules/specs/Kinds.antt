@@ -1,10 +1,10 @@
 -- What typing asks of types.
-use Rattle.std.specs.Prelude.{ℕ, zero, suc, Bool, true, false, not, List, [], ◌∷◌, length, slice_get, Option, Some, None, ◌&&◌, ◌||◌, if◌then◌else◌, ◌==◌}
+use Rattle.std.specs.Prelude.{ℕ, suc, Bool, true, false, not, List, [], ◌∷◌, length, slice_get, Option, Some, None, if◌then◌else◌, ◌==◌}
 use Rattle.kt_types_tree.specs.declared.types.TypeConstructor.{TypeConstructor}
 use Rattle.kt_types_tree.specs.declared.types.TypeConstructor.TheVariants as c
 use Rattle.kt_types_tree.specs.declared.hierarchy.ClassKind.{ClassKind}
 use Rattle.kt_types_tree.specs.declared.hierarchy.ClassKind.TheVariants as kind
-use Rattle.kt_types_tree.specs.Types.{TypeForm, ShapeForm, TypeForms, typed, nothing, any, parameter, of, forms_end, form_then, or_null}
+use Rattle.kt_types_tree.specs.Types.{TypeForm, typed, nothing, any, parameter, of, forms_end, or_null}
 use Rattle.kt_types_tree.specs.Hierarchy.{HierarchyForm, HeaderForm}
 use Rattle.kt_types_order.specs.Below.{IsBelow}
 use Rattle.kt_typed.specs.declared.operators.Width.{Width}

@@ -1,5 +1,5 @@
 -- The laws of typing.
-use Rattle.std.specs.Prelude.{ℕ, ◌+◌, Bool, true, ◌≡◌}
+use Rattle.std.specs.Prelude.{ℕ, true, ◌≡◌}
 use Rattle.kt_base.specs.declared.refusals.Pos.{Pos}
 use Rattle.kt_tree.specs.Bodies.{ExpressionTree}
 use Rattle.kt_typed.specs.Bodies.{ExpressionForm, FunForm}

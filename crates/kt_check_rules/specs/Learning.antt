@@ -1,5 +1,5 @@
 -- The facts that a test gives where it holds, and where it doesn't.
-use Rattle.std.specs.Prelude.{ℕ, Bool, true, false, not, List, [], ◌∷◌, slice_get, Option, Some, None, if◌then◌else◌}
+use Rattle.std.specs.Prelude.{ℕ, Bool, true, false, not, List, slice_get, Option, Some, None, if◌then◌else◌}
 use Rattle.kt_tree.specs.declared.bodies.PrefixOperator.TheVariants as before
 use Rattle.kt_types_tree.specs.Types.{TypeForm}
 use Rattle.kt_types_tree.specs.Hierarchy.{HierarchyForm}

@@ -18,3 +18,4 @@ pub mod Bodies
 pub mod Units
 pub mod Place
 pub mod Laws
+pub mod Samples

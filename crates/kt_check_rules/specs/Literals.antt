@@ -1,6 +1,5 @@
 -- Literals and strings (Kotlin specification, "Constant literals", "String interpolation expressions").
-use Rattle.std.specs.Prelude.{ℕ, Bool, true, false, List, [], ◌∷◌, Option, Some, None, ◌≡◌, nat_le, pos, if◌then◌else◌}
-use Rattle.kt_tree.specs.declared.tokens.Number.{Number}
+use Rattle.std.specs.Prelude.{ℕ, Bool, true, false, List, Option, Some, None, ◌≡◌, nat_le, pos, if◌then◌else◌}
 use Rattle.kt_tree.specs.declared.bodies.TextPart.{TextPart}
 use Rattle.kt_tree.specs.declared.bodies.Literal.{Literal}
 use Rattle.kt_tree.specs.declared.bodies.Literal.TheVariants as written
@@ -30,7 +29,8 @@ int_literal v = literal int_type (is.Int (pos v))
 abbrev pub long_literal : ℕ → ExpressionForm
 long_literal v = literal long_type (is.Long (pos v))
 
--- A number without `L` is an `Int` up to the greatest one, and a `Long` above that; a `Long` also where one is expected.
+-- A number without `L` is an `Int` up to the greatest one, and a `Long` above that; a `Long` also where one is
+-- expected.
 abbrev pub number_of : Use → Bool → ℕ → ExpressionForm
 number_of w true v = long_literal v
 number_of w false v =
@@ -71,7 +71,8 @@ pub record PrintedParts (K : Context) (e : Rule) (s : State) (p : PartForm) (beh
   pub chosen : IsChosen (can_print K) e s value behind
   pub whole : p ≡ printed value
 
-pub record Templates (parts : State → List PartForm → State → Type 0) (s : State) (w : Use) (us : List ExpressionForm) (behind : State) : Type 0 where
+pub record Templates (parts : State → List PartForm → State → Type 0) (s : State) (w : Use)
+    (us : List ExpressionForm) (behind : State) : Type 0 where
   pub all : List PartForm
   pub end : State
   pub are : parts s all end

@@ -1,5 +1,5 @@
 -- Loops and jumps (Kotlin specification, "Loop statements", "Jump expressions").
-use Rattle.std.specs.Prelude.{ℕ, Bool, true, false, List, [], ◌∷◌, ◌++◌, Some, ◌≡◌, ◌||◌, find, IsTrue, if◌then◌else◌}
+use Rattle.std.specs.Prelude.{ℕ, Bool, true, false, List, [], ◌∷◌, ◌++◌, Some, ◌≡◌, find, IsTrue, if◌then◌else◌}
 use Rattle.kt_base.specs.declared.refusals.Pos.{Pos}
 use Rattle.kt_tree.specs.declared.bodies.RangeOperator.{RangeOperator}
 use Rattle.kt_types_tree.specs.Types.{TypeForm}
@@ -11,12 +11,12 @@ use Rattle.kt_typed.specs.Bodies.{ExpressionForm, MaybeExpression, no_expression
 use Rattle.kt_flow.specs.Facts.{FactsForm, meet_all}
 use Rattle.kt_check_rules.specs.Choices.{pairs}
 use Rattle.kt_check_rules.specs.Kinds.{type_of, width_of, boolean_type, nothing_type, is_unit}
-use Rattle.kt_check_rules.specs.States.{Context, State, Book, next_local, entering, leaving, declaring, assigned, with_facts, Path, path, joined, met}
+use Rattle.kt_check_rules.specs.States.{Context, State, Book, next_local, entering, declaring, assigned, with_facts, Path, path, joined, met}
 use Rattle.kt_check_rules.specs.Completion.{is_always, statements_complete}
 use Rattle.kt_check_rules.specs.Operators.{after_test}
 use Rattle.kt_check_rules.specs.Conditionals.{LinesRule}
 use Rattle.kt_check_rules.specs.Typings.{Rule, BlockRule, Use, unused, as_value, meeting, IsTyped, GivesOne}
-use Rattle.std.specs.Prelude.{Option, None}
+use Rattle.std.specs.Prelude.{Option}
 
 -- what was known at the jumps of another loop
 abbrev pub with_jumps : Book → Book → Book
@@ -54,7 +54,8 @@ maybe_done before end ways =
       maybe_assigned = (meet_all end ways).maybe_assigned;
     }
 
-pub record Whiles (K : Context) (at : Pos) (test : Rule) (body : BlockRule) (s : State) (x : StatementForm) (behind : State) : Type 0 where
+pub record Whiles (K : Context) (at : Pos) (test : Rule) (body : BlockRule) (s : State) (x : StatementForm)
+    (behind : State) : Type 0 where
   pub u : ExpressionForm
   pub b : BlockForm
   pub tested : State
@@ -88,7 +89,8 @@ at_condition K s ss end =
       book = with_jumps s.book end.book;
     }
 
-pub record DoWhiles (K : Context) (at : Pos) (lines : LinesRule) (test : Rule) (s : State) (x : StatementForm) (behind : State) : Type 0 where
+pub record DoWhiles (K : Context) (at : Pos) (lines : LinesRule) (test : Rule) (s : State) (x : StatementForm)
+    (behind : State) : Type 0 where
   pub ss : List StatementForm
   pub v : MaybeExpression
   pub u : ExpressionForm
@@ -117,7 +119,8 @@ are_bounds (u, v) = same_widths (width_of (type_of u)) (width_of (type_of v))
 abbrev pub with_variable : List ℕ → TypeForm → State → State
 with_variable x u s = assigned (next_local s) (declaring x kind.LoopVariable u (entering (in_loop (repeated s))))
 
-pub record Fors (at : Pos) (x : List ℕ) (o : RangeOperator) (from to : Rule) (body : BlockRule) (s : State) (y : StatementForm) (behind : State) : Type 0 where
+pub record Fors (at : Pos) (x : List ℕ) (o : RangeOperator) (from to : Rule) (body : BlockRule) (s : State)
+    (y : StatementForm) (behind : State) : Type 0 where
   pub firsts : List ExpressionForm
   pub lasts : List ExpressionForm
   pub chosen : ExpressionForm × ExpressionForm
@@ -174,7 +177,8 @@ abbrev pub Continues : Rule
 Continues s w us behind = GivesOne (t.continue nothing_type) (noting_continue s) us behind
 
 -- a value meets the result of the function
-pub record Returns (K : Context) (e : Rule) (s : State) (w : Use) (us : List ExpressionForm) (behind : State) : Type 0 where
+pub record Returns (K : Context) (e : Rule) (s : State) (w : Use) (us : List ExpressionForm) (behind : State)
+    : Type 0 where
   pub u : ExpressionForm
   pub end : State
   pub value : IsTyped K e s (meeting K.result) u end

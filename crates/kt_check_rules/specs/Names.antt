@@ -1,5 +1,5 @@
 -- Names: locals with their facts, and constants.
-use Rattle.std.specs.Prelude.{ℕ, Bool, true, false, List, [], ◌∷◌, ◌+◌, map, slice_get, Option, Some, None, ◌≡◌, if◌then◌else◌}
+use Rattle.std.specs.Prelude.{ℕ, Bool, true, false, List, [], ◌∷◌, ◌+◌, map, slice_get, Option, Some, None, if◌then◌else◌}
 use Rattle.kt_types_tree.specs.Types.{TypeForm}
 use Rattle.kt_typed.specs.declared.operators.LocalKind.{LocalKind}
 use Rattle.kt_typed.specs.declared.operators.LocalKind.TheVariants as kind
@@ -8,7 +8,7 @@ use Rattle.kt_typed.specs.Headers.{ConstantForm}
 use Rattle.kt_typed.specs.Bodies.{ExpressionForm, local, constant}
 use Rattle.kt_flow.specs.Facts.{FactsForm, types_of}
 use Rattle.kt_check_rules.specs.States.{Context, State, local_named, is_name}
-use Rattle.kt_check_rules.specs.Typings.{Rule, Use, GivesSome}
+use Rattle.kt_check_rules.specs.Typings.{Rule, GivesSome}
 
 -- a `var` has no facts
 abbrev pub is_stable : LocalKind → Bool
@@ -29,7 +29,8 @@ reading_of n (Some l) f = if f.surely_assigned n then Some (map (local_with n) (
 -- constants, from a number on
 abbrev pub constant_named : ℕ → List ConstantForm → List ℕ → Option (List ExpressionForm)
 constant_named n [] x = None
-constant_named n (k ∷ ks) x = if is_name k.name x then Some (constant k.annotation n ∷ []) else constant_named (n + 1) ks x
+constant_named n (k ∷ ks) x = if is_name k.name x then Some (constant k.annotation n ∷ [])
+    else constant_named (n + 1) ks x
 
 -- a name is a local, else a constant
 abbrev pub named : Context → State → Option ℕ → List ℕ → Option (List ExpressionForm)

@@ -1,5 +1,5 @@
 -- Operators (Kotlin specification, "Logical disjunction expression" to "Unary prefix expression").
-use Rattle.std.specs.Prelude.{ℕ, Bool, true, false, not, List, [], ◌∷◌, Option, Some, None, ◌≡◌, ◌⊎◌, ◌&&◌, IsTrue, if◌then◌else◌}
+use Rattle.std.specs.Prelude.{Bool, true, false, not, List, [], ◌∷◌, Option, Some, None, ◌≡◌, ◌⊎◌, ◌&&◌, IsTrue, if◌then◌else◌}
 use Rattle.kt_tree.specs.declared.bodies.BinaryOperator.{BinaryOperator}
 use Rattle.kt_tree.specs.declared.bodies.BinaryOperator.TheVariants as o
 use Rattle.kt_tree.specs.declared.bodies.PrefixOperator.TheVariants as before
@@ -24,10 +24,10 @@ use Rattle.kt_typed.specs.declared.operators.TypedOperator.TheVariants as op
 use Rattle.kt_typed.specs.Bodies.{ExpressionForm, literal, prefix, binary}
 use Rattle.kt_flow.specs.Facts.{FactsForm, meet}
 use Rattle.kt_check_rules.specs.Choices.{IsFirst, first_some, pairs, then_on}
-use Rattle.kt_check_rules.specs.Kinds.{type_of, width_of, number_type, boolean_type, string_type, char_type, is_printable, is_equatable, is_operand, may_be_null, without_null, present_type, IsCommon}
+use Rattle.kt_check_rules.specs.Kinds.{type_of, width_of, number_type, boolean_type, string_type, is_printable, is_equatable, is_operand, may_be_null, without_null, present_type, IsCommon}
 use Rattle.kt_check_rules.specs.States.{Context, State, hierarchy, with_facts}
 use Rattle.kt_check_rules.specs.Learning.{learnt}
-use Rattle.kt_check_rules.specs.Typings.{Rule, Use, unused, as_value, meeting, IsTyped, Gives, GivesOne, GivesIf}
+use Rattle.kt_check_rules.specs.Typings.{Rule, Use, unused, as_value, meeting, IsTyped, GivesOne, GivesIf}
 
 -- an operation, and the type of what it gives
 abbrev pub Operation : Type 0
@@ -103,7 +103,8 @@ abbrev pub applied : HierarchyForm → BinaryOperator → (ExpressionForm × Exp
 applied h k (u, v) = then_on (operation h k (type_of u) (type_of v)) (λ f. Some (binary f.1 f.0 u v))
 
 -- two operands that are both evaluated, of which the first pair of typings counts that the operator allows
-pub record Operations (K : Context) (k : BinaryOperator) (a b : Rule) (s : State) (w : Use) (us : List ExpressionForm) (behind : State) : Type 0 where
+pub record Operations (K : Context) (k : BinaryOperator) (a b : Rule) (s : State) (w : Use)
+    (us : List ExpressionForm) (behind : State) : Type 0 where
   pub lefts : List ExpressionForm
   pub rights : List ExpressionForm
   pub between : State
@@ -132,7 +133,8 @@ AreEquated h u v = IsTrue (is_equatable h (type_of u) && is_operand (type_of v))
 abbrev pub AreComparable : HierarchyForm → (ExpressionForm × ExpressionForm) → Type 0
 AreComparable h (u, v) = (IsBesideNull h u v ⊎ IsBesideNull h v u) ⊎ AreEquated h u v
 
-pub record Equalities (K : Context) (k : TypedOperator) (a b : Rule) (s : State) (w : Use) (us : List ExpressionForm) (behind : State) : Type 0 where
+pub record Equalities (K : Context) (k : TypedOperator) (a b : Rule) (s : State) (w : Use)
+    (us : List ExpressionForm) (behind : State) : Type 0 where
   pub lefts : List ExpressionForm
   pub rights : List ExpressionForm
   pub between : State
@@ -150,7 +152,8 @@ abbrev pub after_test : Context → Bool → ExpressionForm → State → FactsF
 after_test K holds u s = learnt (hierarchy K) s.book.locals holds u s.facts
 
 -- the right side is evaluated where the left is as the first says
-pub record Connectives (K : Context) (goes_on : Bool) (k : TypedOperator) (a b : Rule) (s : State) (w : Use) (us : List ExpressionForm) (behind : State) : Type 0 where
+pub record Connectives (K : Context) (goes_on : Bool) (k : TypedOperator) (a b : Rule) (s : State) (w : Use)
+    (us : List ExpressionForm) (behind : State) : Type 0 where
   pub u : ExpressionForm
   pub v : ExpressionForm
   pub between : State
@@ -180,7 +183,8 @@ HasType K (meeting t) ts u = u ≡ t
 HasType K as_value ts u = IsCommon (hierarchy K) ts u
 HasType K unused ts u = IsCommon (hierarchy K) ts u
 
-pub record Elvises (K : Context) (a b : Rule) (s : State) (w : Use) (us : List ExpressionForm) (behind : State) : Type 0 where
+pub record Elvises (K : Context) (a b : Rule) (s : State) (w : Use) (us : List ExpressionForm) (behind : State)
+    : Type 0 where
   pub u : ExpressionForm
   pub v : ExpressionForm
   pub whole : TypeForm
@@ -210,13 +214,15 @@ abbrev pub negated : ExpressionForm → Option ExpressionForm
 negated u = negated_width u (width_of (type_of u))
 
 -- the use is that of the operand
-pub record Negations (e : Rule) (inner : Use) (s : State) (w : Use) (us : List ExpressionForm) (behind : State) : Type 0 where
+pub record Negations (e : Rule) (inner : Use) (s : State) (w : Use) (us : List ExpressionForm) (behind : State)
+    : Type 0 where
   pub operands : List ExpressionForm
   pub end : State
   pub operand : e s inner operands end
   pub gives : GivesIf (first_some negated operands) end us behind
 
-pub record Nots (K : Context) (e : Rule) (s : State) (w : Use) (us : List ExpressionForm) (behind : State) : Type 0 where
+pub record Nots (K : Context) (e : Rule) (s : State) (w : Use) (us : List ExpressionForm) (behind : State)
+    : Type 0 where
   pub u : ExpressionForm
   pub end : State
   pub operand : IsTyped K e s (meeting boolean_type) u end

@@ -1,5 +1,5 @@
 -- Where a file that has no typed unit is refused.
-use Rattle.std.specs.Prelude.{ℕ, ◌-◌, ◌+◌, ◌≤◌, Bool, true, false, List, [], ◌∷◌, ◌++◌, Some, ◌≡◌, length, take, slice_get}
+use Rattle.std.specs.Prelude.{ℕ, ◌-◌, ◌+◌, ◌≤◌, false, List, [], ◌∷◌, ◌++◌, Some, ◌≡◌, length, take, slice_get}
 use Rattle.kt_base.specs.declared.refusals.Pos.{Pos}
 use Rattle.kt_typed.specs.Bodies.{FunForm}
 use Rattle.kt_check_rules.specs.Bodies.{Direct, Body, place_of, AreBodies}
@@ -18,7 +18,8 @@ abbrev pub cut : ℕ → List Body → List Body
 cut n [] = []
 cut n (b ∷ bs) = with_directs b (take n b.directs) ∷ cut (n - length b.directs) bs
 
--- A direct statement is the first such that the bodies cut behind it fail. What fails is left open: sharing and limits have
+-- A direct statement is the first such that the bodies cut behind it fail. What fails is left open: sharing and
+-- limits have
 -- their places in the same way.
 pub record IsFirstDirect (Fails : List Body → Type 0) (bs : List Body) (n : ℕ) (d : Direct) : Type 0 where
   pub stands : slice_get (directs bs) n ≡ Some d
@@ -37,7 +38,8 @@ HasNoTyping bs = (fs : List FunForm) → AreBodies bs fs → ⊥
 abbrev pub at_start : Pos
 at_start = record { line = 1; column = 1 }
 
--- A file with well-formed headers is refused at the first direct statement that fails; one that has a typing, and no `main`,
+-- A file with well-formed headers is refused at the first direct statement that fails; one that has a typing, and
+-- no `main`,
 -- at its start.
 pub data IsRefused (f : File) (p : Pos) : Type 0 where
   at_statement : FailsAt HasNoTyping (bodies f) p → IsRefused f p

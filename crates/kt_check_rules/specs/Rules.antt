@@ -1,5 +1,5 @@
 -- The rules of typing: one for each form, in the order of the Kotlin specification's chapters.
-use Rattle.std.specs.Prelude.{ℕ, Bool, List, Option, Some, None}
+use Rattle.std.specs.Prelude.{ℕ, Bool, List, Option}
 use Rattle.kt_base.specs.declared.refusals.Pos.{Pos}
 use Rattle.kt_tree.specs.declared.bodies.AssignmentOperator.{AssignmentOperator}
 use Rattle.kt_tree.specs.declared.bodies.StepOperator.{StepOperator}
@@ -8,9 +8,9 @@ use Rattle.kt_tree.specs.declared.bodies.PrefixOperator.TheVariants as before
 use Rattle.kt_tree.specs.Types.{TypeTree}
 use Rattle.kt_tree.specs.Bodies.{ExpressionTree, literal, template, name, this, parenthesized, lambda, prefix, binary, type_check, cast, not_null, member, index, call, if_else, when, try_catch, throw, return, break, continue}
 use Rattle.kt_tree.specs.Bodies.{ExpressionTrees, expressions_end, expression_then, MaybeExpression, no_expression, some_expression, PartTree, text, name_part, this_part, hole, PartTrees, parts_end, part_then}
-use Rattle.kt_tree.specs.Bodies.{EntryTree, entry, EntryTrees, entries_end, entry_then, ConditionTree, equals, of_type, ConditionTrees, conditions_end, condition_then}
+use Rattle.kt_tree.specs.Bodies.{entry, EntryTrees, entries_end, entry_then, ConditionTree, equals, of_type, ConditionTrees, conditions_end, condition_then}
 use Rattle.kt_tree.specs.Bodies.{BodyTree, braces, single, MaybeBody, no_body, some_body, BlockTree, block, StatementTree, local, assign, step, while, do_while, for, evaluate, StatementTrees, statements_end, statement_then}
-use Rattle.kt_typed.specs.Bodies.{ExpressionForm, PartForm, StatementForm, BlockForm}
+use Rattle.kt_typed.specs.Bodies.{PartForm}
 use Rattle.kt_check_rules.specs.States.{Context, State, meaning}
 use Rattle.kt_check_rules.specs.Typings.{Rule, StatementRule, BlockRule, Use, IsNone, IsThen}
 use Rattle.kt_check_rules.specs.Literals.{Literals, Templates, TextParts, PrintedParts, behind_minus}

@@ -8,7 +8,7 @@ use Rattle.kt_typed.specs.declared.operators.LocalKind.TheVariants as kind
 use Rattle.kt_typed.specs.Bodies.{ExpressionForm, StatementForm, declare, no_expression, some_expression}
 use Rattle.kt_check_rules.specs.Kinds.{type_of}
 use Rattle.kt_check_rules.specs.States.{Context, State, meaning, is_free, next_local, declaring, assigned}
-use Rattle.kt_check_rules.specs.Typings.{Rule, StatementRule, Use, as_value, meeting, IsTyped}
+use Rattle.kt_check_rules.specs.Typings.{Rule, StatementRule, as_value, meeting, IsTyped}
 
 abbrev pub local_kind : Bool → LocalKind
 local_kind true = kind.Var
@@ -19,7 +19,8 @@ abbrev pub with_value : Bool → List ℕ → TypeForm → State → State
 with_value var x t s = assigned (next_local s) (declaring x (local_kind var) t s)
 
 -- of a type that is written, with an initialiser that meets it
-pub record TypedLocals (K : Context) (at : Pos) (var : Bool) (x : List ℕ) (written : TypeTree) (e : Rule) (s : State) (y : StatementForm) (behind : State) : Type 0 where
+pub record TypedLocals (K : Context) (at : Pos) (var : Bool) (x : List ℕ) (written : TypeTree) (e : Rule)
+    (s : State) (y : StatementForm) (behind : State) : Type 0 where
   pub t : TypeForm
   pub u : ExpressionForm
   pub end : State
@@ -30,7 +31,8 @@ pub record TypedLocals (K : Context) (at : Pos) (var : Bool) (x : List ℕ) (wri
   pub after : behind ≡ with_value var x t end
 
 -- of the type of its initialiser
-pub record UntypedLocals (K : Context) (at : Pos) (var : Bool) (x : List ℕ) (e : Rule) (s : State) (y : StatementForm) (behind : State) : Type 0 where
+pub record UntypedLocals (K : Context) (at : Pos) (var : Bool) (x : List ℕ) (e : Rule) (s : State)
+    (y : StatementForm) (behind : State) : Type 0 where
   pub u : ExpressionForm
   pub end : State
   pub free : IsTrue (is_free x s)
@@ -39,7 +41,8 @@ pub record UntypedLocals (K : Context) (at : Pos) (var : Bool) (x : List ℕ) (e
   pub after : behind ≡ with_value var x (type_of u) end
 
 -- of a type that is written, not yet assigned
-pub record BareLocals (K : Context) (at : Pos) (var : Bool) (x : List ℕ) (written : TypeTree) (s : State) (y : StatementForm) (behind : State) : Type 0 where
+pub record BareLocals (K : Context) (at : Pos) (var : Bool) (x : List ℕ) (written : TypeTree) (s : State)
+    (y : StatementForm) (behind : State) : Type 0 where
   pub t : TypeForm
   pub free : IsTrue (is_free x s)
   pub means : meaning K written ≡ Some t

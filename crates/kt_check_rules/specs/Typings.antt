@@ -43,7 +43,8 @@ pub record IsTyped (K : Context) (e : Rule) (s : State) (w : Use) (u : Expressio
   pub takes : Takes K w typings u
 
 -- an expression has a typing that a place allows
-pub record IsChosen (test : ExpressionForm → Bool) (e : Rule) (s : State) (u : ExpressionForm) (behind : State) : Type 0 where
+pub record IsChosen (test : ExpressionForm → Bool) (e : Rule) (s : State) (u : ExpressionForm) (behind : State)
+    : Type 0 where
   pub typings : List ExpressionForm
   pub reads : e s as_value typings behind
   pub takes : find test typings ≡ Some u
@@ -70,7 +71,8 @@ GivesIf (Some u) s vs behind = GivesOne u s vs behind
 abbrev pub IsNone : {A : Type 0} → State → List A → State → Type 0
 IsNone s all behind = (all ≡ []) × (behind ≡ s)
 
-pub record IsThen {A : Type 0} (One : State → A → State → Type 0) (Others : State → List A → State → Type 0) (s : State) (all : List A) (behind : State) : Type 0 where
+pub record IsThen {A : Type 0} (One : State → A → State → Type 0) (Others : State → List A → State → Type 0)
+    (s : State) (all : List A) (behind : State) : Type 0 where
   pub one : A
   pub others : List A
   pub between : State

@@ -1,10 +1,9 @@
 -- Files: their bodies, and the typed unit.
-use Rattle.std.specs.Prelude.{ℕ, Bool, true, false, List, [], ◌∷◌, ◌==◌, length, map, codes, Option, Some, None, ◌≡◌, ◌&&◌}
+use Rattle.std.specs.Prelude.{ℕ, Bool, List, [], ◌∷◌, ◌==◌, length, map, codes, Option, Some, None, ◌≡◌, ◌&&◌}
 use Rattle.std.specs.List.{list_any}
 use Rattle.kt_tree.specs.Declarations.{DeclarationTree, FunctionTree, FunctionBodyTree, function, class, interface, enum, constant}
 use Rattle.kt_decls_types.specs.declared.scopes.NamedClass.{NamedClass}
 use Rattle.kt_typed.specs.Headers.{HeadersForm, FunctionForm, ClassForm}
-use Rattle.kt_typed.specs.Bodies.{FunForm}
 use Rattle.kt_typed.specs.Units.{UnitForm, ClassBodies}
 use Rattle.kt_check_rules.specs.States.{Context, is_name}
 use Rattle.kt_check_rules.specs.Bodies.{Direct, Body, directs_of, AreBodies}
