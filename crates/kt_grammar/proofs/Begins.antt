@@ -9,38 +9,9 @@ use Rattle.kt_tree.specs.declared.tokens.Sign.{Sign}
 use Rattle.kt_tree.specs.declared.tokens.Sign.TheVariants as sign
 use Rattle.kt_grammar.specs.Parsers.{first}
 use Rattle.kt_grammar.specs.Phrases.{IsToken, Seq, Either, NotReads}
+pub use Rattle.kt_grammar.specs.Terminals.{kind_begins_expression, keyword_begins_expression}
 
 -- ---- tests
-
-abbrev pub keyword_begins_expression : Keyword → Bool
-keyword_begins_expression word.Break = true
-keyword_begins_expression word.Continue = true
-keyword_begins_expression word.False = true
-keyword_begins_expression word.If = true
-keyword_begins_expression word.Null = true
-keyword_begins_expression word.Return = true
-keyword_begins_expression word.This = true
-keyword_begins_expression word.Throw = true
-keyword_begins_expression word.True = true
-keyword_begins_expression word.Try = true
-keyword_begins_expression word.When = true
-keyword_begins_expression _ = false
-
-abbrev pub sign_begins_expression : Sign → Bool
-sign_begins_expression sign.Minus = true
-sign_begins_expression sign.Not = true
-sign_begins_expression sign.OpenParenthesis = true
-sign_begins_expression sign.OpenBrace = true
-sign_begins_expression _ = false
-
-abbrev pub kind_begins_expression : TokenKind → Bool
-kind_begins_expression (kind.Identifier name) = true
-kind_begins_expression (kind.Keyword k) = keyword_begins_expression k
-kind_begins_expression (kind.Number n) = true
-kind_begins_expression (kind.Character unit) = true
-kind_begins_expression (kind.Sign s) = sign_begins_expression s
-kind_begins_expression kind.OpenQuote = true
-kind_begins_expression _ = false
 
 abbrev pub keyword_begins_statement : Keyword → Bool
 keyword_begins_statement word.Val = true

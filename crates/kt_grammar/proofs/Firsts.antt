@@ -43,6 +43,11 @@ module _ {A B : Type 0} (K : A → List Token → List Token → Type 0) (L : A 
   room_eats b u rest eats other (inl x) = elim x.1 [ inl s ↦ seq_eats eats b u rest s | inr m ↦ other m.0 ]
   room_eats b u rest eats other (inr x) = other x.1
 
+-- a turn eats where what goes on does, and what goes on without it
+pub turn_eats_by : {A B : Type 0} (K : A → List Token → List Token → Type 0) (L : A → B → List Token → List Token → Type 0) (M : B → List Token → List Token → Type 0) (room : Bool) (b : B) (u rest : List Token) → (Seq K L b u rest → 0 < length u) → (M b u rest → 0 < length u) → WhereRoom room K L M b u rest → 0 < length u
+turn_eats_by K L M room b u rest eats other (inl x) = elim x.1 [ inl s ↦ eats s | inr m ↦ other m.0 ]
+turn_eats_by K L M room b u rest eats other (inr x) = other x.1
+
 -- a part that may be absent, and is where what goes on without it begins
 pub room_before : {A B : Type 0} {r : Parser Token A} {go : A → Parser Token B} {other : Parser Token B} {K : A → List Token → List Token → Type 0} {L : A → B → List Token → List Token → Type 0} {M : B → List Token → List Token → Type 0} {D F F' : List Token → Type 0} {N : B → List Token → Type 0}
     (b : Bool) → Part r K D (λ _. F') → (b ≡ true → (a : A) → Part (go a) (L a) F' N) → Part other M F N → ((ts : List Token) → F ts → NotReads K ts) → Part (attempt_if b r go other) (WhereRoom b K L M) F N

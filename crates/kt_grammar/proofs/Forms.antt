@@ -1,5 +1,5 @@
 -- The forms that productions are made of: lists and chains.
-use Rattle.std.proofs.Common.{◌≡◌, ℕ, ◌<◌, Bool, true, false, List, [], ◌∷◌, ◌++◌, length, Ok, Err, refl, sym, ap, subst, ◌∙◌, append_assoc, arith, inl, inr, ◌⊎◌, length-append}
+use Rattle.std.proofs.Common.{◌≡◌, ℕ, ◌<◌, Bool, true, false, not, if◌then◌else◌, List, [], ◌∷◌, ◌++◌, length, Ok, Err, refl, sym, ap, subst, ◌∙◌, append_assoc, arith, inl, inr, ◌⊎◌, length-append}
 use Rattle.std.proofs.lemmas.List.{append-nil, append_cancel_right}
 use Rattle.kt_grammar.specs.Parsers.{Cursor, Parser, cursor, further, first, ◌>>=◌, ◌>>◌, pure, token, skip, attempt, attempt_if, repeat, ahead, comma_turn, comma_list, maybe_comma_list, more_turn, several, gap, item_turn, items, chain_turn, chain}
 use Rattle.kt_grammar.specs.Phrases.{IsNothing, IsToken, IsSkipped, IsAhead, Seq, NotReads, FirstOf, If, WhereRoom, Loop, ends, CommaTurn, CommaList, MaybeCommaList, MoreTurn, Several, IsGap, ItemTurn, Items, ChainTurn, Chain}
@@ -24,59 +24,82 @@ gives_phrase f L N N' stop s = record { whole = f s.whole; tokens = s.tokens; ph
 
 -- ---- a token that is only looked at
 
-module _ {T : Type 0} (test : T → Bool) (G N : Unit {0} → List T → Type 0) (next : (tail : List T) → N tt tail → first test tail ≡ true) where
-  ahead_ok : (c c' : Cursor T) (a : Unit {0}) → ahead test c ≡ Ok (a, c') → (first test c.rest ≡ true) × (c.rest ≡ c'.rest) × (further c.rest c.far ≡ c'.far)
-  unfolding ahead
-  ahead_ok c c' a e =
-      let i = if_ok (first test c.rest) (tt, cursor c.rest (further c.rest c.far)) (a, c') (further c.rest c.far) e in
+-- nothing is taken where what comes next looks so
+unfoldable pub looked : {T : Type 0} → (List T → Bool) → Parser T (Unit {0})
+looked look = λ c. if look c.rest then Ok (tt, cursor c.rest (further c.rest c.far)) else Err (further c.rest c.far)
+
+module _ {T : Type 0} (look : List T → Bool) (first_alone : (u k d : List T) → 0 < length u → look (u ++ k) ≡ look (u ++ d)) (L : Unit {0} → List T → List T → Type 0)
+    (is : (a : Unit {0}) (u rest : List T) → L a u rest → (u ≡ []) × (look rest ≡ true)) (make : (rest : List T) → look rest ≡ true → L tt [] rest)
+    (G N : Unit {0} → List T → Type 0) (next : (tail : List T) → N tt tail → look tail ≡ true) where
+  looked_ok : (c c' : Cursor T) (a : Unit {0}) → looked look c ≡ Ok (a, c') → (look c.rest ≡ true) × (c.rest ≡ c'.rest) × (further c.rest c.far ≡ c'.far)
+  unfolding looked
+  looked_ok c c' a e =
+      let i = if_ok (look c.rest) (tt, cursor c.rest (further c.rest c.far)) (a, c') (further c.rest c.far) e in
       (i.0, ap (λ (r : Unit {0} × Cursor T). r.1.rest) i.1, ap (λ (r : Unit {0} × Cursor T). r.1.far) i.1)
 
-  ahead_err : (c : Cursor T) (k : List T) → ahead test c ≡ Err k → (first test c.rest ≡ false) × (further c.rest c.far ≡ k)
-  unfolding ahead
-  ahead_err c k e = if_err (first test c.rest) (tt, cursor c.rest (further c.rest c.far)) (further c.rest c.far) k e
+  looked_err : (c : Cursor T) (k : List T) → looked look c ≡ Err k → (look c.rest ≡ false) × (further c.rest c.far ≡ k)
+  unfolding looked
+  looked_err c k e = if_err (look c.rest) (tt, cursor c.rest (further c.rest c.far)) (further c.rest c.far) k e
 
-  nothing_begun : (ts : List T) → Begun (IsAhead test) N ts ts
-  nothing_begun ts = record { read = []; more = []; whole = tt; is = refl; phrase = λ tail h. record { none = refl; next = next tail h } }
+  nothing_begun : (ts : List T) → Begun L N ts ts
+  nothing_begun ts = record { read = []; more = []; whole = tt; is = refl; phrase = λ tail h. make tail (next tail h) }
 
-  ahead_far : (c : Cursor T) (k : List T) → further c.rest c.far ≡ k → (k ≡ c.far) ⊎ Begun (IsAhead test) N c.rest k
-  ahead_far c k e = (subst (λ (z : List T). Refusal (IsAhead test) N c z) e (refused_at (IsAhead test) N c c.rest (nothing_begun c.rest) (omega arith))).far
+  looked_far : (c : Cursor T) (k : List T) → further c.rest c.far ≡ k → (k ≡ c.far) ⊎ Begun L N c.rest k
+  looked_far c k e = (subst (λ (z : List T). Refusal L N c z) e (refused_at L N c c.rest (nothing_begun c.rest) (omega arith))).far
 
-  ahead_there : (c : Cursor T) → first test c.rest ≡ true → ahead test c ≡ Ok (tt, cursor c.rest (further c.rest c.far))
-  unfolding ahead
-  ahead_there c e = rw e refl
+  looked_there : (c : Cursor T) → look c.rest ≡ true → looked look c ≡ Ok (tt, cursor c.rest (further c.rest c.far))
+  unfolding looked
+  looked_there c e = rw e refl
 
-  ahead_not : (c : Cursor T) → first test c.rest ≡ false → ahead test c ≡ Err (further c.rest c.far)
-  unfolding ahead
-  ahead_not c e = rw e refl
+  looked_not : (c : Cursor T) → look c.rest ≡ false → looked look c ≡ Err (further c.rest c.far)
+  unfolding looked
+  looked_not c e = rw e refl
 
-  ahead_complete : (a : Unit {0}) (u rest far : List T) → IsAhead test a u rest → Accepted (ahead test) a u rest far
-  ahead_complete a u rest far l =
-      let all : u ++ rest ≡ rest = ap (λ (z : List T). z ++ rest) l.none in
-      record { far' = further rest far; is = ap (λ (z : List T). ahead test (cursor z far)) all ∙ ahead_there (cursor rest far) l.next }
+  looked_complete : (a : Unit {0}) (u rest far : List T) → L a u rest → Accepted (looked look) a u rest far
+  looked_complete a u rest far l =
+      let all : u ++ rest ≡ rest = ap (λ (z : List T). z ++ rest) (is a u rest l).0 in
+      record { far' = further rest far; is = ap (λ (z : List T). looked look (cursor z far)) all ∙ looked_there (cursor rest far) (is a u rest l).1 }
 
-  ahead_local_ok : (a : Unit {0}) (u z y x k d : List T) → 0 < length x → ahead test (cursor (u ++ k) (z ++ k)) ≡ Ok (a, cursor (y ++ k) (x ++ k)) → ahead test (cursor (u ++ d) (z ++ d)) ≡ Ok (a, cursor (y ++ d) (x ++ d))
-  ahead_local_ok a u z y x k d pos e =
-      let i = ahead_ok (cursor (u ++ k) (z ++ k)) (cursor (y ++ k) (x ++ k)) a e in
+  looked_local_ok : (a : Unit {0}) (u z y x k d : List T) → 0 < length x → looked look (cursor (u ++ k) (z ++ k)) ≡ Ok (a, cursor (y ++ k) (x ++ k)) → looked look (cursor (u ++ d) (z ++ d)) ≡ Ok (a, cursor (y ++ d) (x ++ d))
+  looked_local_ok a u z y x k d pos e =
+      let i = looked_ok (cursor (u ++ k) (z ++ k)) (cursor (y ++ k) (x ++ k)) a e in
       let some : 0 < length u = omega (arith, pos, ap length i.2, (further_short (u ++ k) (z ++ k)).0, length-append x k, length-append u k) in
       let uy : u ≡ y = append_cancel_right u y k i.1 in
       let marks : further (u ++ d) (z ++ d) ≡ x ++ d = mark_moves u z x k d i.2 in
-      ahead_there (cursor (u ++ d) (z ++ d)) (sym (first_same test u k d some) ∙ i.0) ∙ ap (λ (q : List T). Ok (tt, cursor (u ++ d) q)) marks ∙ ap (λ (q : List T). Ok (tt, cursor (q ++ d) (x ++ d))) uy
+      looked_there (cursor (u ++ d) (z ++ d)) (sym (first_alone u k d some) ∙ i.0) ∙ ap (λ (q : List T). Ok (tt, cursor (u ++ d) q)) marks ∙ ap (λ (q : List T). Ok (tt, cursor (q ++ d) (x ++ d))) uy
 
-  ahead_local_err : (u z x k d : List T) → 0 < length x → ahead test (cursor (u ++ k) (z ++ k)) ≡ Err (x ++ k) → ahead test (cursor (u ++ d) (z ++ d)) ≡ Err (x ++ d)
-  ahead_local_err u z x k d pos e =
-      let i = ahead_err (cursor (u ++ k) (z ++ k)) (x ++ k) e in
+  looked_local_err : (u z x k d : List T) → 0 < length x → looked look (cursor (u ++ k) (z ++ k)) ≡ Err (x ++ k) → looked look (cursor (u ++ d) (z ++ d)) ≡ Err (x ++ d)
+  looked_local_err u z x k d pos e =
+      let i = looked_err (cursor (u ++ k) (z ++ k)) (x ++ k) e in
       let some : 0 < length u = omega (arith, pos, ap length i.1, (further_short (u ++ k) (z ++ k)).0, length-append x k, length-append u k) in
-      ahead_not (cursor (u ++ d) (z ++ d)) (sym (first_same test u k d some) ∙ i.0) ∙ ap Err (mark_moves u z x k d i.1)
+      looked_not (cursor (u ++ d) (z ++ d)) (sym (first_alone u k d some) ∙ i.0) ∙ ap Err (mark_moves u z x k d i.1)
 
-  pub ahead_correct : Correct (ahead test) (IsAhead test) G N
-  ahead_correct = record {
-    sound = λ c a c' t e. let i = ahead_ok c c' a e in
-        record { read = []; is = i.1; phrase = record { none = refl; next = ap (first test) (sym i.1) ∙ i.0 }; far = ahead_far c c'.far i.2; shorter = omega (arith, ap length i.2, (further_short c.rest c.far).1) };
-    complete = λ a u rest far t l g. ahead_complete a u rest far l;
-    failed = λ c k t e. let i = ahead_err c k e in subst (λ (z : List T). Refusal (IsAhead test) N c z) i.1 (refused_at (IsAhead test) N c c.rest (nothing_begun c.rest) (omega arith));
-    local_ok = λ a u z y x k d t pos e. ahead_local_ok a u z y x k d pos e;
-    local_err = λ u z x k d t pos e. ahead_local_err u z x k d pos e;
+  pub looked_correct : Correct (looked look) L G N
+  looked_correct = record {
+    sound = λ c a c' t e. let i = looked_ok c c' a e in
+        record { read = []; is = i.1; phrase = make c'.rest (ap look (sym i.1) ∙ i.0); far = looked_far c c'.far i.2; shorter = omega (arith, ap length i.2, (further_short c.rest c.far).1) };
+    complete = λ a u rest far t l g. looked_complete a u rest far l;
+    failed = λ c k t e. let i = looked_err c k e in subst (λ (z : List T). Refusal L N c z) i.1 (refused_at L N c c.rest (nothing_begun c.rest) (omega arith));
+    local_ok = λ a u z y x k d t pos e. looked_local_ok a u z y x k d pos e;
+    local_err = λ u z x k d t pos e. looked_local_err u z x k d pos e;
   }
+
+-- a token that passes the test comes next
+pub ahead_correct : {T : Type 0} (test : T → Bool) (G N : Unit {0} → List T → Type 0) → ((tail : List T) → N tt tail → first test tail ≡ true) → Correct (ahead test) (IsAhead test) G N
+unfolding ahead looked
+ahead_correct test G N next = looked_correct (first test) (first_same test) (IsAhead test) (λ a u rest l. (l.none, l.next)) (λ rest h. record { none = refl; next = h }) G N next
+
+-- no token that passes the test comes next
+pub record IsAbsent {T : Type 0} (test : T → Bool) (a : Unit {0}) (u rest : List T) : Type 0 where
+  pub none : u ≡ []
+  pub next : not (first test rest) ≡ true
+
+unfoldable pub absent : {T : Type 0} → (T → Bool) → Parser T (Unit {0})
+absent test = looked (λ ts. not (first test ts))
+
+pub absent_correct : {T : Type 0} (test : T → Bool) (G N : Unit {0} → List T → Type 0) → ((tail : List T) → N tt tail → not (first test tail) ≡ true) → Correct (absent test) (IsAbsent test) G N
+unfolding absent
+absent_correct test G N next = looked_correct (λ ts. not (first test ts)) (λ u k d h. ap not (first_same test u k d h)) (IsAbsent test) (λ a u rest l. (l.none, l.next)) (λ rest h. record { none = refl; next = h }) G N next
 
 -- ---- what is read where there is room
 

@@ -1,21 +1,21 @@
 -- Forms over a part for which there may be no level left.
-use Rattle.std.proofs.Common.{◌≡◌, Bool, true, false, List, [], ◌∷◌, ◌++◌, Err, refl, sym, ap, ◌∙◌, arith, inl, inr}
+use Rattle.std.proofs.Common.{◌≡◌, Bool, true, false, not, List, [], ◌∷◌, ◌++◌, Err, refl, sym, ap, subst, ◌∙◌, arith, inl, inr}
 use Rattle.kt_tree.specs.declared.tokens.Token.{Token}
 use Rattle.kt_tree.specs.declared.tokens.TokenKind.{TokenKind}
-use Rattle.kt_grammar.specs.Parsers.{Cursor, Parser, cursor, further, first, ◌>>=◌, ◌>>◌, pure, token, skip, on, attempt_if, repeat, gap, item_turn, items, comma_list, maybe_comma_list}
-use Rattle.kt_grammar.specs.Phrases.{IsNothing, IsToken, IsSkipped, IsGap, Seq, Either, NotReads, FirstOf, If, Loop, ends, ItemTurn, Items, CommaList, MaybeCommaList}
+use Rattle.kt_grammar.specs.Parsers.{Cursor, Parser, cursor, further, first, ◌>>=◌, ◌>>◌, pure, token, skip, on, ahead, attempt, where_next, repeat, gap, item_turn, items, comma_list, maybe_comma_list}
+use Rattle.kt_grammar.specs.Phrases.{IsNothing, IsToken, IsSkipped, IsAhead, IsGap, Seq, Either, NotReads, WhereNext, If, Loop, ends, ItemTurn, Items, CommaList, MaybeCommaList}
 use Rattle.kt_grammar.proofs.Ends.{further_cases, further_first, tied_move}
 use Rattle.kt_grammar.proofs.Correct.{Correct, below, correct, same_parser, same_language}
 use Rattle.kt_grammar.proofs.Bind.{bind_correct}
 use Rattle.kt_grammar.proofs.Steps.{Any, truth, pure_correct, token_correct}
 use Rattle.kt_grammar.proofs.Skip.{skip_correct}
 use Rattle.kt_grammar.proofs.On.{Phrase, on_correct}
-use Rattle.kt_grammar.proofs.Attempt.{attempt_correct}
 use Rattle.kt_grammar.proofs.Repeat.{repeat_correct}
-use Rattle.kt_grammar.proofs.Forms.{NoneOf, items_correct, maybe_comma_list_correct}
+use Rattle.kt_grammar.proofs.Forms.{NoneOf, IsAbsent, absent, looked, absent_correct, items_correct, maybe_comma_list_correct}
 use Rattle.kt_grammar.specs.Words.{Empty}
 use Rattle.kt_grammar.specs.Readers.{on_if}
-use Rattle.kt_grammar.proofs.Sequences.{Part, Anything, phrase_of}
+use Rattle.kt_grammar.proofs.Sequences.{Part, Anything, phrase_of, then, where_part}
+use Rattle.kt_grammar.proofs.Firsts.{ahead_part}
 use Rattle.kt_grammar.proofs.Choices.{same_part, other_part, on_part}
 use Rattle.kt_grammar.proofs.Begins.{of_kind, first_of_front, begins_no, begins_eats}
 use Rattle.kt_grammar.proofs.Below.{IsRead}
@@ -55,22 +55,54 @@ read_part {test = test} R h halts asked = let s = R.phrase h in record {
   phrase = λ tail stop. let l = s.phrase tail (halts tail stop) in (l, asked (s.tokens ++ tail) (first_of_front (of_kind test) s.tokens tail (R.begins s.whole s.tokens tail l)));
 }
 
--- where levels are left, a part that may be absent
-pub where_left : {A B : Type 0} {p : Parser Token A} {go : A → Parser Token B} {other : Parser Token B} {K : A → List Token → List Token → Type 0} {L : A → B → List Token → List Token → Type 0} {M : B → List Token → List Token → Type 0} {Stop Halt F N : List Token → Type 0} {test : TokenKind → Bool}
-    (left : Bool) → IsRead left p K Stop Halt test → (left ≡ true → (a : A) → Part (go a) (L a) Stop (λ _. N)) → (Q : Part other M F (λ _. N)) → ((tail : List Token) → N tail → NotReads K (Q.tokens ++ tail)) → Part (attempt_if left p go other) (FirstOf K L M) F (λ _. N)
-where_left {p = p} {go = go} {other = other} {K = K} {L = L} {M = M} {Stop = Stop} {N = N} true R P Q absent = record {
-  correct = attempt_correct p go other K L M (λ _. Stop) Any (λ _. N) (R.correct refl) (λ a. (P refl a).correct) Q.correct (λ a u l. record { whole = (P refl a).whole; tokens = (P refl a).tokens; phrase = (P refl a).phrase });
-  whole = Q.whole;
-  tokens = Q.tokens;
-  phrase = λ tail h. let q = Q.phrase tail h in (inr (q.0, absent tail h), q.1);
-}
-where_left {other = other} {K = K} {L = L} {M = M} {N = N} false R P Q absent = record {
-  correct = correct other (FirstOf K L M) Any (λ _. N) (λ n. same_language n other M (FirstOf K L M) Any Any (λ _. N) (λ _. N) (λ b u rest m. inr (m, λ a v more is k. R.none refl a v more k)) (λ b u rest f g. elim f [ inl s ↦ absurd (R.none refl s.value s.front (s.back ++ rest) s.phrase) | inr m ↦ m.0 ]) (λ b rest g. g) (λ b rest h. h)
-      (below n other M Any (λ _. N) Q.correct));
-  whole = Q.whole;
-  tokens = Q.tokens;
-  phrase = λ tail h. let q = Q.phrase tail h in (inr (q.0, absent tail h), q.1);
-}
+-- a token that passes the test doesn't come next
+pub not_ahead : {T : Type 0} (test : T → Bool) (ts : List T) → first test ts ≡ false → NotReads (IsAhead test) ts
+not_ahead test ts h a u rest is l = let e : true ≡ false = sym l.next ∙ ap (first test) (sym (is ∙ ap (λ (z : List _). z ++ rest) l.none)) ∙ h in absurd cc
+
+is_absent : {T : Type 0} (test : T → Bool) (ts : List T) → NotReads (IsAhead test) ts → not (first test ts) ≡ true
+is_absent test ts h = elim (truth (first test ts)) [ inl y ↦ absurd (h tt [] ts refl (record { none = refl; next = y })) | inr n ↦ ap not n ]
+
+not_true : (b : Bool) → not b ≡ true → b ≡ false
+not_true true h = absurd cc
+not_true false h = refl
+
+-- where no level is left, what the token would begin is refused at that token
+module _ {T B : Type 0} (test : T → Bool) (q other : Parser T B) (dead : (c : Cursor T) → q c ≡ Err (further c.rest c.far)) (L M : B → List T → List T → Type 0) (none : (b : B) (u rest : List T) → L b u rest → ⊥) where
+  next_dead_by : (c : Cursor T) (b : Bool) → first test c.rest ≡ b → where_next test q other c ≡ (absent test >> other) c
+  unfolding attempt ahead absent looked
+  next_dead_by c true e = rw e (refused_again q dead c.rest c.far)
+  next_dead_by c false e = rw e refl
+
+  next_dead : (c : Cursor T) → where_next test q other c ≡ (absent test >> other) c
+  next_dead c = next_dead_by c (first test c.rest) refl
+
+  next_to : (b : B) (u rest : List T) → Seq (IsAbsent test) (λ _. M) b u rest → WhereNext test L M b u rest
+  next_to b u rest s =
+      let same : u ≡ s.back = s.is ∙ ap (λ (z : List T). z ++ s.back) s.phrase.none in
+      inr (subst (λ (z : List T). M b z rest) (sym same) s.phrase', not_ahead test (u ++ rest) (ap (λ (z : List T). first test (z ++ rest)) same ∙ not_true (first test (s.back ++ rest)) s.phrase.next))
+
+  next_from : (b : B) (u rest : List T) → WhereNext test L M b u rest → Seq (IsAbsent test) (λ _. M) b u rest
+  next_from b u rest (inl s) = absurd (none b s.back rest s.phrase')
+  next_from b u rest (inr m) = record { value = tt; front = []; back = u; is = refl; phrase = record { none = refl; next = is_absent test (u ++ rest) m.1 }; phrase' = m.0 }
+
+  next_dead_part : {F : List T → Type 0} {N : B → List T → Type 0} → (Q : Part other M F N) → ((tail : List T) → N Q.whole tail → first test (Q.tokens ++ tail) ≡ false) → Part (where_next test q other) (WhereNext test L M) F N
+  next_dead_part {N = N} Q missing = record {
+    correct = correct (where_next test q other) (WhereNext test L M) Any N (λ n. same_parser n (absent test >> other) (where_next test q other) (WhereNext test L M) Any N (λ c t. next_dead c) tied_move
+        (same_language n (absent test >> other) (Seq (IsAbsent test) (λ _. M)) (WhereNext test L M) Any Any N N next_to (λ b u rest l g. next_from b u rest l) (λ b rest g. g) (λ b rest h. h)
+        (below n (absent test >> other) (Seq (IsAbsent test) (λ _. M)) Any N
+        (bind_correct (absent test) (λ _. other) (IsAbsent test) (λ _. M) Any (λ _ tail. not (first test tail) ≡ true) Any N (absent_correct test Any (λ _ tail. not (first test tail) ≡ true) (λ tail h. h)) (λ _. Q.correct) (λ a b u rest l h. tt)
+        (λ a u l. record { whole = Q.whole; tokens = Q.tokens; phrase = λ tail h. ((Q.phrase tail h).0, ap not (missing tail h)) })))));
+    whole = Q.whole;
+    tokens = Q.tokens;
+    phrase = λ tail h. let q = Q.phrase tail h in (inr (q.0, not_ahead test (Q.tokens ++ tail) (missing tail h)), q.1);
+  }
+
+-- a part that is there where its first token is, for which there may be no level left
+pub next_left : {A B : Type 0} {p : Parser Token A} {go : A → Parser Token B} {other : Parser Token B} {K : A → List Token → List Token → Type 0} {L : A → B → List Token → List Token → Type 0} {M : B → List Token → List Token → Type 0} {Stop Halt F N : List Token → Type 0} {test : TokenKind → Bool}
+    (left : Bool) → IsRead left p K Stop Halt test → ((tail : List Token) → Stop tail → Halt tail) → (left ≡ true → (a : A) → Part (go a) (L a) Stop (λ _. N)) → (Q : Part other M F (λ _. N)) → ((tail : List Token) → N tail → first (of_kind test) (Q.tokens ++ tail) ≡ false)
+    → Part (where_next (of_kind test) (p >>= go) other) (WhereNext (of_kind test) (Seq K L) M) F (λ _. N)
+next_left {test = test} true R halts P Q missing = where_part (ahead_part {F = Anything} (of_kind test) (λ tail h. h) (λ tail h. tt)) (λ _. then (read_part R refl halts (λ ts h. h)) (P refl)) Q (λ tail h. not_ahead (of_kind test) (Q.tokens ++ tail) (missing tail h))
+next_left {p = p} {go = go} {other = other} {K = K} {L = L} {M = M} {test = test} false R halts P Q missing = next_dead_part (of_kind test) (p >>= go) other (λ c. rw (R.refuses refl c) refl) (Seq K L) M (λ b u rest s. R.none refl s.value s.front (s.back ++ rest) s.phrase) Q missing
 
 -- ---- lists
 

@@ -112,3 +112,57 @@ whens_200 = refl
 whens_201 : refused_in (body (wrapped 198 (sign_of sign.OpenParenthesis ∷ []) (at (kind.Keyword word.When) ∷ sign_of sign.OpenBrace ∷ at (kind.Keyword word.Else) ∷ sign_of sign.Arrow ∷ x ++ sign_of sign.CloseBrace ∷ []) (sign_of sign.CloseParenthesis ∷ []))) ≡ Some 205
 unfolding file_parser further token skip on attempt loop ahead meant type_parser parsers most_levels same_keyword same_sign
 whens_201 = refl
+
+-- ---- what follows is taken by its first token, also where it doesn't fit: then there is no sentence
+
+abbrev c_in_parentheses : List Token
+c_in_parentheses = sign_of sign.OpenParenthesis ∷ x ++ sign_of sign.CloseParenthesis ∷ []
+
+-- '(' .. 'x' .. ')'
+abbrev nested : ℕ → List Token
+nested n = wrapped n (sign_of sign.OpenParenthesis ∷ []) x (sign_of sign.CloseParenthesis ∷ [])
+
+-- return ((..x..))
+returns_200 : refused_in (body (at (kind.Keyword word.Return) ∷ nested 198)) ≡ None
+unfolding file_parser further token skip on attempt loop ahead meant type_parser parsers most_levels same_keyword same_sign
+returns_200 = refl
+
+-- The operand of `return` is deeper than 200 levels: it is no call of `return`.
+returns_201 : refused_in (body (at (kind.Keyword word.Return) ∷ nested 199)) ≡ Some 204
+unfolding file_parser further token skip on attempt loop ahead meant type_parser parsers most_levels same_keyword same_sign
+returns_201 = refl
+
+-- if (x) x(((..x..)))
+bodies_200 : refused_in (body (at (kind.Keyword word.If) ∷ c_in_parentheses ++ x ++ sign_of sign.OpenParenthesis ∷ nested 197 ++ sign_of sign.CloseParenthesis ∷ [])) ≡ None
+unfolding file_parser further token skip on attempt loop ahead meant type_parser parsers most_levels same_keyword same_sign
+bodies_200 = refl
+
+-- It is no call of the `if`.
+bodies_201 : refused_in (body (at (kind.Keyword word.If) ∷ c_in_parentheses ++ x ++ sign_of sign.OpenParenthesis ∷ nested 198 ++ sign_of sign.CloseParenthesis ∷ [])) ≡ Some 208
+unfolding file_parser further token skip on attempt loop ahead meant type_parser parsers most_levels same_keyword same_sign
+bodies_201 = refl
+
+-- throw x[((..x..))]
+thrown_200 : refused_in (body (at (kind.Keyword word.Throw) ∷ x ++ sign_of sign.OpenBracket ∷ nested 197 ++ sign_of sign.CloseBracket ∷ [])) ≡ None
+unfolding file_parser further token skip on attempt loop ahead meant type_parser parsers most_levels same_keyword same_sign
+thrown_200 = refl
+
+-- It is no element of the `throw`.
+thrown_201 : refused_in (body (at (kind.Keyword word.Throw) ∷ x ++ sign_of sign.OpenBracket ∷ nested 198 ++ sign_of sign.CloseBracket ∷ [])) ≡ Some 205
+unfolding file_parser further token skip on attempt loop ahead meant type_parser parsers most_levels same_keyword same_sign
+thrown_201 = refl
+
+-- ((..if (x) x else x { x }..))
+branches_200 : refused_in (body (wrapped 196 (sign_of sign.OpenParenthesis ∷ []) (at (kind.Keyword word.If) ∷ c_in_parentheses ++ x ++ at (kind.Keyword word.Else) ∷ x ++ sign_of sign.OpenBrace ∷ x ++ sign_of sign.CloseBrace ∷ []) (sign_of sign.CloseParenthesis ∷ []))) ≡ None
+unfolding file_parser further token skip on attempt loop ahead meant type_parser parsers most_levels same_keyword same_sign
+branches_200 = refl
+
+-- It is no call of the `if` with a lambda.
+branches_201 : refused_in (body (wrapped 197 (sign_of sign.OpenParenthesis ∷ []) (at (kind.Keyword word.If) ∷ c_in_parentheses ++ x ++ at (kind.Keyword word.Else) ∷ x ++ sign_of sign.OpenBrace ∷ x ++ sign_of sign.CloseBrace ∷ []) (sign_of sign.CloseParenthesis ∷ []))) ≡ Some 210
+unfolding file_parser further token skip on attempt loop ahead meant type_parser parsers most_levels same_keyword same_sign
+branches_201 = refl
+
+-- trial
+typed_200 : refused_in (body (at (kind.Keyword word.When) ∷ c_in_parentheses ++ sign_of sign.OpenBrace ∷ x ++ sign_of sign.Less ∷ x ++ sign_of sign.Comma ∷ c_in_parentheses ++ sign_of sign.Arrow ∷ nested 196 ++ sign_of sign.Greater ∷ c_in_parentheses ++ sign_of sign.CloseBrace ∷ [])) ≡ None
+unfolding file_parser further token skip on attempt loop ahead meant type_parser parsers most_levels same_keyword same_sign
+typed_200 = refl

@@ -28,10 +28,11 @@ pub mod OperatorsRead
 pub mod PrefixesRead
 pub mod Begins
 pub mod Below
+pub mod Firsts
 pub mod Left
 pub mod Witnesses
 pub mod BlocksRead
-pub mod Firsts
+pub mod Room
 pub mod SuffixesRead
 pub mod StringsRead
 pub mod Unless

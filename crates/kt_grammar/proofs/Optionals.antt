@@ -43,6 +43,11 @@ on_room_part {go = go} {other = other} {L = L} {M = M} {F = F} {N = N} false tes
   phrase = λ tail h. let q = Q.phrase tail h in (inr (refl, q.0), q.1);
 }
 
+-- the same, where what goes on without it says what it begins with
+pub on_room_before : {B : Type 0} {go : Token → Parser Token B} {other : Parser Token B} {L : Token → B → List Token → List Token → Type 0} {M : B → List Token → List Token → Type 0} {F : List Token → Type 0} {N : B → List Token → Type 0} (b : Bool) (test : Token → Bool) (witness : Token) → test witness ≡ true
+    → (b ≡ true → (t : Token) → Part (go t) (L t) Anything N) → Part other M F N → ((ts : List Token) → F ts → first test ts ≡ false) → Part (on_if b test go other) (WhereRoom b (IsToken test) L M) F N
+on_room_before b test witness passes P Q absent = on_room_part b test witness passes P Q (λ tail h. absent (Q.tokens ++ tail) (Q.phrase tail h).1)
+
 -- a part behind a token that may be absent
 pub maybe_part : {A : Type 0} {p : Parser Token A} {L : A → List Token → List Token → Type 0} {Stop : List Token → Type 0} (test : Token → Bool) (witness : Token) → test witness ≡ true → Part p L Anything (λ _. Stop) → ((tail : List Token) → Stop tail → first test tail ≡ false) → Part (maybe test p) (Maybe test L) Stop (λ _. Stop)
 maybe_part test witness passes P absent = on_where_part test witness passes (λ t. then P (λ a. made (Some a) (λ tail h. h))) (made None (λ tail h. h)) absent

@@ -12,9 +12,9 @@ use Rattle.kt_tree.specs.declared.bodies.Literal.TheVariants as literal
 use Rattle.kt_tree.specs.Tokens.{same_sign, same_keyword, kind_is_sign, kind_is_keyword, kind_is_identifier, is_identifier}
 use Rattle.kt_tree.specs.Bodies as e
 use Rattle.kt_tree.specs.Bodies.{ExpressionTree}
-use Rattle.kt_grammar.specs.Parsers.{some_levels, ◌>>=◌, pure, on}
+use Rattle.kt_grammar.specs.Parsers.{first, some_levels, ◌>>=◌, pure, on}
 use Rattle.kt_grammar.specs.Phrases.{IsNothing, IsToken, Seq, Either, NotReads, ends}
-use Rattle.kt_grammar.specs.Terminals.{kind_is_open_quote, keyword_literal, kind_literal, literal_of, name_of}
+use Rattle.kt_grammar.specs.Terminals.{begins_expression, kind_is_open_quote, keyword_literal, kind_literal, literal_of, name_of}
 use Rattle.kt_grammar.specs.Words.{IsMeant}
 use Rattle.kt_grammar.specs.Readers.{meant}
 use Rattle.kt_grammar.specs.Levels.{Phrases}
@@ -31,7 +31,7 @@ use Rattle.kt_grammar.proofs.Keywords.{or_left, or_right}
 use Rattle.kt_grammar.proofs.Productions.{Production, goes}
 use Rattle.kt_grammar.proofs.Begins.{kind_begins_expression, keyword_begins_expression, Begins, begins_no, begins_not_read, seq_begins_with, either_begins_with, token_begins_with}
 use Rattle.kt_grammar.proofs.Below.{Halts, ReadsBelow}
-use Rattle.kt_grammar.proofs.Left.{read_part, where_left}
+use Rattle.kt_grammar.proofs.Left.{read_part, next_left}
 use Rattle.kt_grammar.proofs.Witnesses.{a_keyword, keyword_is, sign_is, close_then, parenthesis_ends}
 use Rattle.kt_grammar.proofs.Firsts.{meant_begins}
 use Rattle.kt_grammar.proofs.Alternatives.{or_kind, kind_or, at_kind_sign, at_kind_keyword, or_where_room, or_else, or_where}
@@ -124,8 +124,8 @@ module _ (parsers : Parsers) (phrases : Phrases) (R : ReadsBelow parsers phrases
   abbrev left : Bool
   left = some_levels parsers.levels
 
-  no_expression : (tail : List Token) → Halts tail → NotReads (phrases.disjunction at) tail
-  no_expression tail h = begins_not_read kind_begins_expression (R.disjunction at).begins tail (halts_no kind_begins_expression refl refl refl refl refl refl refl tail h)
+  no_expression : (tail : List Token) → Halts tail → first begins_expression tail ≡ false
+  no_expression tail h = halts_no kind_begins_expression refl refl refl refl refl refl refl tail h
 
   none : {B : Type 0} {M : ExpressionTree → B → List Token → List Token → Type 0} → left ≡ false → (b : B) (u rest : List Token) → Seq (phrases.disjunction at) M b u rest → ⊥
   none h b u rest s = (R.disjunction at).none h s.value s.front (s.back ++ rest) s.phrase
@@ -155,14 +155,14 @@ module _ (parsers : Parsers) (phrases : Phrases) (R : ReadsBelow parsers phrases
       (λ t. any_part (lambda_rest_part parsers.levels parsers phrases R at t)))
       at.in_loop (λ h t. made (e.continue t.pos) (λ tail s. tt)))
       at.in_loop (λ h t. made (e.break t.pos) (λ tail s. tt)))
-      (not at.in_lambda) (λ h t. where_left left (R.disjunction at) (λ i a. made (e.return t.pos (e.some_expression a)) (λ tail s. s)) (made (e.return t.pos e.no_expression) (λ tail s. tt)) (λ tail s. no_expression tail (closes_halts tail s))))
+      (not at.in_lambda) (λ h t. next_left left (R.disjunction at) closes_halts (λ i a. made (e.return t.pos (e.some_expression a)) (λ tail s. s)) (made (e.return t.pos e.no_expression) (λ tail s. tt)) (λ tail s. no_expression tail (closes_halts tail s))))
       left (λ h t. then (inner h) (λ a. made (e.throw t.pos a) (λ tail s. s))) (λ h t. none h))
       left (if_part parsers.levels parsers phrases R at) (no_if parsers.levels parsers phrases R at))
       left (λ h t. close_then sign.CloseParenthesis parenthesis_ends (inner h) (λ a _. made (e.parenthesized t.pos a) (λ tail s. tt))) (λ h t. none h)
 
   -- primary suffix*
   pub postfix_production : Production begins_primary (postfix (suc parsers.levels) parsers at) (IsPostfix (suc parsers.levels) phrases at)
-  postfix_production = goes primary_production (suffixes_part parsers.levels parsers phrases R at) (λ a. a) (λ a tail h. ends (suffixes_end parsers.levels parsers phrases R at a tail h))
+  postfix_production = goes primary_production (suffixes_part parsers phrases R at) (λ a. a) (λ a tail h. ends (suffixes_end parsers phrases R at a tail h))
 
 -- ---- a primary begins as an expression does, and with no prefix
 

@@ -112,6 +112,10 @@ abbrev pub attempt_if : {T A B : Type 0} → Bool → Parser T A → (A → Pars
 attempt_if true p go other = attempt p go other
 attempt_if false p go other = other
 
+-- where the next token passes the test, the one, else the other
+abbrev pub where_next : {T B : Type 0} → (T → Bool) → Parser T B → Parser T B → Parser T B
+where_next test p other = attempt (ahead test) (λ _. p) other
+
 -- ---- lists
 
 -- ',' item, or the token that ends the list

@@ -77,6 +77,11 @@ abbrev pub WhereRoom : {T A B : Type 0} → Bool → (A → List T → List T �
     → (B → List T → List T → Type 0) → B → List T → List T → Type 0
 WhereRoom room K L M = If room (FirstOf K L M) M
 
+-- a part that may be absent, as the next token tells: where it passes the test L, and elsewhere M
+abbrev pub WhereNext : {T B : Type 0} → (T → Bool) → (B → List T → List T → Type 0) → (B → List T → List T → Type 0) → B
+    → List T → List T → Type 0
+WhereNext test L M = FirstOf (IsAhead test) (λ _. L) M
+
 -- ---- lists
 
 -- ',' item, or the token that ends the list

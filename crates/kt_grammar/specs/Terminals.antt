@@ -6,6 +6,7 @@ use Rattle.kt_tree.specs.declared.tokens.TokenKind.{TokenKind}
 use Rattle.kt_tree.specs.declared.tokens.TokenKind.TheVariants as kind
 use Rattle.kt_tree.specs.declared.tokens.Keyword.{Keyword}
 use Rattle.kt_tree.specs.declared.tokens.Keyword.TheVariants as word
+use Rattle.kt_tree.specs.declared.tokens.Sign.{Sign}
 use Rattle.kt_tree.specs.declared.tokens.Sign.TheVariants as sign
 use Rattle.kt_tree.specs.declared.tokens.SoftKeyword.TheVariants as soft
 use Rattle.kt_tree.specs.declared.bodies.Literal.{Literal}
@@ -37,6 +38,47 @@ is_separator = either is_new_line (is_sign sign.Semicolon)
 -- any token but `->`
 abbrev pub is_no_arrow : Token → Bool
 is_no_arrow token = not (is_sign sign.Arrow token)
+
+-- what the arguments of a call begin with, behind its type arguments
+abbrev pub opens_arguments : Token → Bool
+opens_arguments = either (is_sign sign.OpenParenthesis) (is_sign sign.OpenBrace)
+
+-- ---- with which tokens expressions begin
+
+abbrev pub keyword_begins_expression : Keyword → Bool
+keyword_begins_expression word.Break = true
+keyword_begins_expression word.Continue = true
+keyword_begins_expression word.False = true
+keyword_begins_expression word.If = true
+keyword_begins_expression word.Null = true
+keyword_begins_expression word.Return = true
+keyword_begins_expression word.This = true
+keyword_begins_expression word.Throw = true
+keyword_begins_expression word.True = true
+keyword_begins_expression word.Try = true
+keyword_begins_expression word.When = true
+keyword_begins_expression _ = false
+
+abbrev pub sign_begins_expression : Sign → Bool
+sign_begins_expression sign.Minus = true
+sign_begins_expression sign.Not = true
+sign_begins_expression sign.OpenParenthesis = true
+sign_begins_expression sign.OpenBrace = true
+sign_begins_expression _ = false
+
+abbrev pub kind_begins_expression : TokenKind → Bool
+kind_begins_expression (kind.Identifier name) = true
+kind_begins_expression (kind.Keyword k) = keyword_begins_expression k
+kind_begins_expression (kind.Number n) = true
+kind_begins_expression (kind.Character unit) = true
+kind_begins_expression (kind.Sign s) = sign_begins_expression s
+kind_begins_expression kind.OpenQuote = true
+kind_begins_expression _ = false
+
+abbrev pub begins_expression : Token → Bool
+begins_expression token = kind_begins_expression token.kind
+
+-- ---- names
 
 -- the spelling of an identifier, or of the name in a string
 abbrev pub kind_name : TokenKind → List ℕ
@@ -110,7 +152,8 @@ abbrev pub is_of : TokenClass → Token → Bool
 is_of class.Separator = is_separator
 is_of class.CloseBrace = is_sign sign.CloseBrace
 is_of class.End = is_end
-is_of class.OpensArguments = either (is_sign sign.OpenParenthesis) (is_sign sign.OpenBrace)
+is_of class.OpensArguments = opens_arguments
+is_of class.BeginsExpression = begins_expression
 is_of class.NoArrow = is_no_arrow
 is_of class.OpenQuote = is_open_quote
 is_of class.CloseQuote = is_close_quote
