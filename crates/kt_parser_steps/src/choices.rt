@@ -1,8 +1,8 @@
 //! Parts that are taken where they are allowed and stand.
 
-ghost use Rattle.kt_grammar.specs.Parsers.{Parser};
+ghost use Rattle.kt_grammar.specs.Parsers.{Parser, ahead};
 ghost use Rattle.kt_grammar.specs.Terminals.{is_of};
-ghost use Rattle.kt_parser_steps.specs.Chosen.{FindsIf, TurnedIf};
+ghost use Rattle.kt_parser_steps.specs.Chosen.{FindsIf, TriesIf, TurnedIf};
 ghost use Rattle.kt_parser_steps.specs.Steps.{EachReads};
 ghost use Rattle.kt_tree.specs.declared.tokens.Token.{Token};
 ghost use Rattle.kt_tree.specs.Tokens.{is_keyword, is_sign, is_soft_keyword};
@@ -10,6 +10,7 @@ ghost use Rattle.std.specs.Option.{option_copied};
 ghost use Rattle.std.specs.Prelude.{IfOk};
 
 use crate::node::Node;
+use crate::steps::class_ahead;
 use kt_base::NoMemory;
 use kt_grammar::{ParseError, TokenClass, Tokens};
 use kt_tree::{Keyword, Sign, SoftKeyword, Token};
@@ -59,6 +60,17 @@ pub fn class_if<'a>(allowed: bool, tokens: &mut Tokens<'a>, class: TokenClass) -
         tokens.take_class(class)
     } else {
         None
+    }
+}
+
+/// Whether the next token is of this class, where that is asked. It is examined then, and not taken.
+pub fn class_ahead_if(asked: bool, tokens: &mut Tokens<'_>, class: TokenClass) -> bool
+    ensures { TriesIf asked (ahead (is_of class)) tokens.old result tokens.new }
+{
+    if asked {
+        class_ahead(tokens, class)
+    } else {
+        false
     }
 }
 

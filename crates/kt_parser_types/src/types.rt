@@ -32,7 +32,8 @@ pub struct TypesBelow<F> {
 }
 
 impl<F: Fn(Global, u32, &mut Tokens<'_>) -> Result<TypeReference, ParseError>> TypesBelow<F> {
-    fn part(&self, tokens: &mut Tokens<'_>) -> Result<TypeReference, ParseError>
+    /// A type of at most `room` levels.
+    fn inner_type(&self, tokens: &mut Tokens<'_>) -> Result<TypeReference, ParseError>
         requires { ReadsBelow self.now.room (F.pre self.now.read) (F.post self.now.read) }
         ensures { ReadsAs type_tree (type_parser self.now.room tokens.old) result tokens.new }
     {
@@ -52,7 +53,7 @@ impl<F: Fn(Global, u32, &mut Tokens<'_>) -> Result<TypeReference, ParseError>> T
             self.alloc,
             tokens,
             close,
-            &|tokens: &mut Tokens<'_>| self.inner_expression(tokens),
+            &|tokens: &mut Tokens<'_>| self.inner_type(tokens),
         )
     }
 
@@ -69,7 +70,7 @@ impl<F: Fn(Global, u32, &mut Tokens<'_>) -> Result<TypeReference, ParseError>> T
             self.alloc,
             tokens,
             close,
-            &|tokens: &mut Tokens<'_>| self.inner_expression(tokens),
+            &|tokens: &mut Tokens<'_>| self.inner_type(tokens),
         )
     }
 
@@ -136,7 +137,7 @@ impl<F: Fn(Global, u32, &mut Tokens<'_>) -> Result<TypeReference, ParseError>> T
             (readers.result_type suspends (type_parser self.now.room) (map type_tree parameters) tokens.old)
             result tokens.new }
     {
-        let outcome = self.inner_expression(tokens)?;
+        let outcome = self.inner_type(tokens)?;
         Ok(function(self.alloc, suspends, parameters, outcome)?)
     }
 
