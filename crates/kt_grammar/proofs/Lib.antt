@@ -33,6 +33,9 @@ pub mod Left
 pub mod Witnesses
 pub mod BlocksRead
 pub mod Room
+pub mod Holding
+pub mod TypeLevels
+pub mod LevelsHeld
 pub mod SuffixesRead
 pub mod StringsRead
 pub mod Unless
