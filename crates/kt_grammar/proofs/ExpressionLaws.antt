@@ -1,16 +1,16 @@
 -- The laws on expressions and statements.
-use Rattle.std.proofs.Common.{◌≡◌, ℕ, suc, true, List, refl}
+use Rattle.std.proofs.Common.{◌≡◌, ℕ, suc, true, List, [], refl}
 use Rattle.kt_tree.specs.declared.tokens.Token.{Token}
 use Rattle.kt_tree.specs.declared.tokens.TokenKind.{TokenKind}
-use Rattle.kt_grammar.specs.Parsers.{Parser, some_levels}
+use Rattle.kt_grammar.specs.Parsers.{Parser, cursor, some_levels}
 use Rattle.kt_grammar.specs.Sentences.{OneValue}
 use Rattle.kt_grammar.specs.Statements.{phrases}
 use Rattle.kt_grammar.specs.StatementParser.{parsers}
-use Rattle.kt_grammar.specs.Laws.{SentencesAreRead, RefusesFirst, OneExpression, ExpressionIsRead, ExpressionIsRefused, OneStatement, StatementIsRead, StatementIsRefused}
+use Rattle.kt_grammar.specs.Laws.{SentencesAreRead, ReadsSentences, RefusesFirst, OneExpression, ExpressionIsRead, ExpressionIsRefused, ExpressionReadsExpressions, OneStatement, StatementIsRead, StatementIsRefused, StatementReadsStatements}
 use Rattle.kt_grammar.proofs.Steps.{Any}
 use Rattle.kt_grammar.proofs.On.{Phrase}
 use Rattle.kt_grammar.proofs.Sequences.{Closes, phrase_of}
-use Rattle.kt_grammar.proofs.Whole.{one_value, sentence_is_read, refused_at_first}
+use Rattle.kt_grammar.proofs.Whole.{one_value, read_is_sentence, sentence_is_read, refused_at_first}
 use Rattle.kt_grammar.proofs.Below.{IsExpressionRead}
 use Rattle.kt_grammar.proofs.Productions.{from_read}
 use Rattle.kt_grammar.proofs.LevelsRead.{levels_read}
@@ -29,6 +29,9 @@ module _ {A : Type 0} (p : Parser Token A) (L : A → List Token → List Token 
   read : SentencesAreRead p L
   read = sentence_is_read p L Any (λ _. Closes) (R.correct there) (λ a. tt) (λ a. refl) some
 
+  only : ReadsSentences p L
+  only ts a far e = read_is_sentence p L Any (λ _. Closes) (R.correct there) (λ a. tt) (λ a. refl) some ts a (cursor [] far) e refl
+
   refused : RefusesFirst p L
   refused = refused_at_first p L Any (λ _. Closes) (R.correct there) (λ a. tt) (λ a. refl) some
 
@@ -38,6 +41,9 @@ one_expression n at = one ((parsers (suc n)).disjunction at) ((phrases (suc n)).
 pub expression_is_read : ExpressionIsRead
 expression_is_read n at = read ((parsers (suc n)).disjunction at) ((phrases (suc n)).disjunction at) ((levels_read (suc n)).disjunction at) (a_level n)
 
+pub expression_reads_expressions : ExpressionReadsExpressions
+expression_reads_expressions n at = only ((parsers (suc n)).disjunction at) ((phrases (suc n)).disjunction at) ((levels_read (suc n)).disjunction at) (a_level n)
+
 pub expression_is_refused : ExpressionIsRefused
 expression_is_refused n at = refused ((parsers (suc n)).disjunction at) ((phrases (suc n)).disjunction at) ((levels_read (suc n)).disjunction at) (a_level n)
 
@@ -46,6 +52,9 @@ one_statement n at = one ((parsers (suc n)).statement at) ((phrases (suc n)).sta
 
 pub statement_is_read : StatementIsRead
 statement_is_read n at = read ((parsers (suc n)).statement at) ((phrases (suc n)).statement at) ((levels_read (suc n)).statement at) (a_level n)
+
+pub statement_reads_statements : StatementReadsStatements
+statement_reads_statements n at = only ((parsers (suc n)).statement at) ((phrases (suc n)).statement at) ((levels_read (suc n)).statement at) (a_level n)
 
 pub statement_is_refused : StatementIsRefused
 statement_is_refused n at = refused ((parsers (suc n)).statement at) ((phrases (suc n)).statement at) ((levels_read (suc n)).statement at) (a_level n)

@@ -104,7 +104,7 @@ parameter_holds n = each_then (λ x. each_seq (each_maybe (TypeFits (suc n)) (ty
 block_rest_holds : (n : ℕ) (Statement : StatementTree → List Token → List Token → Type 0) → Each Statement (λ s. statement_levels s ≤ n) → Each (IsBlockRest Statement) (λ b. block_levels b ≤ n)
 block_rest_holds n Statement h = each_seq (each_items (λ s. statement_levels s ≤ n) h) (λ b all. each_gives (statements_fit n b.0 all))
 
-block_holds : (n : ℕ) (Statement : StatementTree → List Token → List Token → Type 0) → Each Statement (λ s. statement_levels s ≤ n) → Each (IsBlock Statement) (λ b. block_levels b ≤ n)
+pub block_holds : (n : ℕ) (Statement : StatementTree → List Token → List Token → Type 0) → Each Statement (λ s. statement_levels s ≤ n) → Each (IsBlock Statement) (λ b. block_levels b ≤ n)
 block_holds n Statement h = each_then (λ _. block_rest_holds n Statement h)
 
 -- ---- one level more

@@ -63,4 +63,5 @@ pub mod FunctionsRead
 pub mod ClassesRead
 pub mod ConstantsRead
 pub mod FilesRead
+pub mod FileLevels
 pub mod FileLaws

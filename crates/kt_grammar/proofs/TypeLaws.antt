@@ -1,13 +1,13 @@
 -- The laws on types.
 use Rattle.std.proofs.Common.{ℕ, suc, [], refl}
 use Rattle.kt_tree.specs.Types.{TypeTree}
-use Rattle.kt_grammar.specs.Parsers.{some_levels}
+use Rattle.kt_grammar.specs.Parsers.{cursor, some_levels}
 use Rattle.kt_grammar.specs.Types.{IsType}
 use Rattle.kt_grammar.specs.Readers.{type_parser}
-use Rattle.kt_grammar.specs.Laws.{OneType, TypeIsRead, TypeIsRefused}
+use Rattle.kt_grammar.specs.Laws.{OneType, TypeIsRead, TypeIsRefused, TypeReadsTypes}
 use Rattle.kt_grammar.proofs.On.{Phrase}
 use Rattle.kt_grammar.proofs.Steps.{Any}
-use Rattle.kt_grammar.proofs.Whole.{one_value, sentence_is_read, refused_at_first}
+use Rattle.kt_grammar.proofs.Whole.{one_value, read_is_sentence, sentence_is_read, refused_at_first}
 use Rattle.kt_grammar.proofs.TypesRead.{TypeEnds, type_phrase, types_correct}
 
 ends_there : (t : TypeTree) → TypeEnds t []
@@ -22,6 +22,9 @@ one_type n = one_value (type_parser (suc n)) (IsType (suc n)) Any TypeEnds (type
 
 pub type_is_read : TypeIsRead
 type_is_read n = sentence_is_read (type_parser (suc n)) (IsType (suc n)) Any TypeEnds (types_correct n) (λ a. tt) ends_there (some_type n)
+
+pub type_reads_types : TypeReadsTypes
+type_reads_types n ts t far e = read_is_sentence (type_parser (suc n)) (IsType (suc n)) Any TypeEnds (types_correct n) (λ a. tt) ends_there (some_type n) ts t (cursor [] far) e refl
 
 pub type_is_refused : TypeIsRefused
 type_is_refused n = refused_at_first (type_parser (suc n)) (IsType (suc n)) Any TypeEnds (types_correct n) (λ a. tt) ends_there (some_type n)
