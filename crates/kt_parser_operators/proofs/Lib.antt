@@ -1,3 +1,4 @@
 pub mod OneTurn
 pub mod SeenBehind
 pub mod Suffixed
+pub mod BehindValue

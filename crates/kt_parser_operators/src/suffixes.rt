@@ -3,7 +3,7 @@
 ghost use Rattle.kt_parser_blocks.specs.Below.{AreRead};
 ghost use Rattle.kt_grammar.specs.Declarations.{outside};
 ghost use Rattle.kt_grammar.specs.StatementParser.{parsers};
-ghost use Rattle.kt_parser_steps.specs.Steps.{ReadsAs};
+ghost use Rattle.kt_parser_steps.specs.Steps.{Expects, ReadsAs};
 ghost use Rattle.kt_tree.specs.Bodies.{expression_tree};
 ghost use Rattle.kt_parser_operators.specs.Rules as rules;
 ghost use Rattle.kt_parser_operators.specs.Suffixes.{suffix_tree};
@@ -20,8 +20,8 @@ use kt_grammar::{Context, ParseError, TokenClass, Tokens};
 use kt_parser_blocks::Precedence;
 use kt_parser_primaries::Primaries;
 use kt_parser_steps::{
-    Node, Turn, attempt_if, class_ahead, expect, expect_identifier, maybe_comma_list, name_of,
-    repeat, sign_if, take_member,
+    Node, Refused, Turn, attempt_if, beside, class_ahead, expect, expect_identifier,
+    maybe_comma_list, name_of, repeat, sign_if, take_member,
 };
 use kt_parser_types::type_arguments;
 use kt_tree::{Expression, ExpressionKind, Sign, Statement, TypeReference};
@@ -76,6 +76,7 @@ impl<
         + Copy,
     S: Fn(Global, u32, Context, &mut Tokens<'_>) -> Result<Statement, ParseError> + Copy,
 > Operators<E, S> {
+    /// `value`, or `value` with the suffix that comes next, where there is room for it.
     fn suffix_turn(
         &self,
         at: Context,
@@ -91,14 +92,15 @@ impl<
             ends_in_name(&value),
             tokens,
             &|tokens: &mut Tokens<'_>| self.type_arguments_of_call(tokens),
-        )?;
+        );
+        let (value, types) = beside(value, types)?;
         match types {
             Some(types) => self.typed_call_rest(at, value, types, tokens),
             None => self.plain_suffix_turn(at, value, tokens),
         }
     }
 
-    /// A call behind its type arguments.
+    /// `arguments`, those of a call, behind its type arguments.
     fn typed_call_rest(
         &self,
         at: Context,
@@ -112,7 +114,8 @@ impl<
             (rules.typed_call_rest self.now.below.room at (expression_tree value) (map type_tree types) tokens.old)
             result tokens.new }
     {
-        let arguments = self.call_arguments(at, tokens)?;
+        let arguments = self.call_arguments(at, tokens);
+        let ((value, types), arguments) = beside((value, types), arguments)?;
         Ok(Turn::More(call(self.below.alloc, value, types, arguments)?))
     }
 
@@ -183,7 +186,8 @@ impl<
             self.has_call(&value),
             tokens,
             &|tokens: &mut Tokens<'_>| self.call_arguments(at, tokens),
-        )?;
+        );
+        let (value, arguments) = beside(value, arguments)?;
         match arguments {
             Some(arguments) => {
                 let types = Items::new(self.below.alloc);
@@ -209,7 +213,8 @@ impl<
             self.below.has_room(&value),
             tokens,
             &|tokens: &mut Tokens<'_>| self.suffix(at, tokens),
-        )?;
+        );
+        let (value, suffix) = beside(value, suffix)?;
         match suffix {
             Some(suffix) => Ok(Turn::More(with_suffix(self.below.alloc, value, suffix)?)),
             None => Ok(Turn::Done(value)),
@@ -231,7 +236,7 @@ impl<
         }
     }
 
-    /// Behind `[`.
+    /// `expr ']'`, behind `[`.
     fn index_rest(&self, at: Context, tokens: &mut Tokens<'_>) -> Result<Suffix, ParseError>
         requires { AreRead self.now.below.room (E.pre self.now.below.expression) (E.post self.now.below.expression)
             (S.pre self.now.below.statement) (S.post self.now.below.statement) }
@@ -240,7 +245,7 @@ impl<
         let element = self
             .below
             .inner_expression(Precedence::Disjunction, at, tokens)?;
-        expect(tokens, Sign::CloseBracket)?;
+        let (element, _) = beside(element, expect(tokens, Sign::CloseBracket))?;
         Ok(Suffix::Index(element))
     }
 
@@ -325,10 +330,11 @@ impl<
         self.with_lambda(at, arguments, tokens)
     }
 
+    /// `lambda?`, behind the `)`: the last of the arguments.
     fn with_lambda(
         &self,
         at: Context,
-        mut arguments: Items<Expression>,
+        arguments: Items<Expression>,
         tokens: &mut Tokens<'_>,
     ) -> Result<Items<Expression>, ParseError>
         requires { AreRead self.now.below.room (E.pre self.now.below.expression) (E.post self.now.below.expression)
@@ -340,7 +346,8 @@ impl<
             self.below.is_deep(),
             tokens,
             &|tokens: &mut Tokens<'_>| self.below.inner_lambda(at, tokens),
-        )?;
+        );
+        let (mut arguments, lambda) = beside(arguments, lambda)?;
         match lambda {
             Some(lambda) => {
                 arguments.push(lambda)?;
@@ -352,11 +359,11 @@ impl<
 }
 
 /// `'.'`, or `'?.'`, which is told as true.
-fn member_sign(tokens: &mut Tokens<'_>) -> Result<bool, ParseError>
-    ensures { ReadsAs (λ safe. safe) (rules.member_sign tokens.old) result tokens.new }
+fn member_sign(tokens: &mut Tokens<'_>) -> Result<bool, Refused>
+    ensures { Expects (λ safe. safe) (rules.member_sign tokens.old) result tokens.new }
 {
     match take_member(true, tokens) {
         Some((_, safe)) => Ok(safe),
-        None => Err(ParseError::Refused),
+        None => Err(Refused),
     }
 }
