@@ -99,8 +99,11 @@ module _ (n : ℕ) (at : Context) where
   entry subject = entry_head subject >>= s.entry_rest (suc n) (parsers n) at
 
   -- the entries of a `when`, and the `}`
+  abbrev pub entries : Bool → Parser Token (List EntryTree × Token)
+  entries subject = separated (is_sign sign.CloseBrace) ((parsers n).entry at subject)
+
   abbrev pub entries_rest : Token → Option ExpressionTree → Parser Token ExpressionTree
-  entries_rest t a = separated (is_sign sign.CloseBrace) ((parsers n).entry at (is_some a))
+  entries_rest t a = entries (is_some a)
       >>= (λ es. pure (e.when t.pos (e.maybe_expression a) (e.entries_of es.0)))
 
   abbrev pub when_rest : Token → Parser Token ExpressionTree

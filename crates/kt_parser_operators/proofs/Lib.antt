@@ -1,2 +1,3 @@
 pub mod OneTurn
 pub mod SeenBehind
+pub mod BehindValue

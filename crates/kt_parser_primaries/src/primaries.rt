@@ -7,7 +7,7 @@ ghost use Rattle.kt_parser_primaries.specs.Rules as rules;
 
 use kt_grammar::{Context, ParseError, TokenClass, Tokens};
 use kt_parser_blocks::{Below, Precedence};
-use kt_parser_steps::{class_ahead, expect, keyword_if, name_of, sign_if, take_literal};
+use kt_parser_steps::{beside, class_ahead, expect, keyword_if, name_of, sign_if, take_literal};
 use kt_tree::{Expression, Keyword, Sign, Statement, Token};
 use kt_tree_nodes::expressions::{
     break_loop, continue_loop, literal, name, parenthesized, return_with, this, throw,
@@ -45,7 +45,7 @@ impl<
         }
     }
 
-    /// Behind `(`.
+    /// `expr ')'`, behind this `(`.
     fn parenthesized_rest(
         &self,
         start: &Token,
@@ -60,11 +60,11 @@ impl<
         let inner = self
             .below
             .inner_expression(Precedence::Disjunction, at, tokens)?;
-        expect(tokens, Sign::CloseParenthesis)?;
+        let (inner, _) = beside(inner, expect(tokens, Sign::CloseParenthesis))?;
         Ok(parenthesized(self.below.alloc, start.pos, inner)?)
     }
 
-    /// Behind `throw`.
+    /// `expr`, behind this `throw`.
     fn throw_rest(
         &self,
         start: &Token,
@@ -174,6 +174,7 @@ impl<
     }
 }
 
+/// A literal that is no string.
 fn literal_atom(tokens: &mut Tokens<'_>) -> Result<Expression, ParseError>
     ensures { ReadsAs expression_tree (rules.literal_atom tokens.old) result tokens.new }
 {

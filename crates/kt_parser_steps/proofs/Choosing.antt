@@ -79,9 +79,6 @@ module _ {T A B : Type 0} (tree : A → B) (test : T → Bool) (p other : Parser
   pub next_skips : Tries (ahead test c) c false c1 → ReadsAs tree (other c1) r new → ReadsAs tree (where_next test p other c) r new
   next_skips h e = looked_skips tree true true (ahead test) (λ _. p) other c c1 new r refl h e
 
-  pub next_passes : (z : Outcome T B) → Tries (ahead test c) c false c1 → other c1 ≡ z → where_next test p other c ≡ z
-  next_passes z h e = attempt_err (ahead test) (λ _. p) other c c1.far h.0 ∙ ap (λ (k : List T). other (cursor k c1.far)) (sym h.1) ∙ e
-
 -- a part that has to be there
 module _ {T A B X Y : Type 0} (tree : A → B) (view : X → Y) (p : Parser T Y) (go : Y → Parser T B) (c c1 : Cursor T) where
   pub found_reads : (x : X) (r : Result A ParseError) (new : Cursor T) → FindsIf true view p c (Some x) c1 → ReadsAs tree (go (view x) c1) r new → ReadsAs tree ((p >>= go) c) r new
@@ -98,6 +95,10 @@ module _ {T B : Type 0} (test : T → Bool) (go : T → Parser T B) (other : Par
 
   pub on_passes : Turned test c None c1 → other c1 ≡ z → on test go other c ≡ z
   on_passes h e = on_missed test c go other c1 h ∙ e
+
+module _ {T B : Type 0} (test : T → Bool) (p other : Parser T B) (c c1 : Cursor T) (z : Outcome T B) where
+  pub next_passes : Tries (ahead test c) c false c1 → other c1 ≡ z → where_next test p other c ≡ z
+  next_passes h e = attempt_err (ahead test) (λ _. p) other c c1.far h.0 ∙ ap (λ (k : List T). other (cursor k c1.far)) (sym h.1) ∙ e
 
 module _ {B : Type 0} (there allowed : Bool) (test : Token → Bool) (go : Token → Parser Token B) (other : Parser Token B) (c c1 : Cursor Token) (z : Outcome Token B) where
   pub on_if_gives : (t : Token) → there ≡ allowed → TurnedIf there test c (Some t) c1 → go t c1 ≡ z → on_if allowed test go other c ≡ z

@@ -4,3 +4,4 @@ pub mod Turning
 pub mod Ways
 pub mod Choosing
 pub mod Optional
+pub mod HeldBack

@@ -52,6 +52,11 @@ pub refused : {T A B : Type 0} (tree : A → B) (outcome : Outcome T B) (x : Par
 refused tree outcome x new h (Ok a) i = absurd (cc)
 refused tree outcome x new h (Err e) i = λ some. h (λ z. some (i.1 ∙ z))
 
+-- the exit of a `?` behind a step that takes no memory
+pub stopped : {T A B : Type 0} (tree : A → B) (outcome : Outcome T B) (new : Cursor T) → outcome ≡ Err new.far → (r : Result A ParseError) → IsErr r → ReadsAs tree outcome r new
+stopped tree outcome new h (Ok a) i = absurd (cc)
+stopped tree outcome new h (Err e) i = λ some. h
+
 -- a turn of the code is one of the parser's
 module _ {T S B X Y : Type 0} (state : S → X) (outcome : B → Y) (t : X → Parser T (X ⊎ Y)) (n at : ℕ) (some : at < n) (x : X) (c c' : Cursor T)
     (found : Turn S B) (e : t x c ≡ Ok (turn_tree state outcome found, c')) where

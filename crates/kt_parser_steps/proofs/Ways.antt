@@ -5,13 +5,17 @@ use Rattle.kt_grammar.specs.declared.error.ParseError.{ParseError}
 use Rattle.kt_grammar.specs.Parsers.{Cursor, Parser, Outcome, cursor, further, first, token, ahead, attempt, ◌>>◌, some_levels}
 use Rattle.kt_grammar.specs.Cursors.{Turned}
 use Rattle.kt_grammar.proofs.Turns.{token_taken, token_missed}
-use Rattle.kt_parser_steps.specs.Steps.{ReadsAs}
+use Rattle.kt_parser_steps.specs.Steps.{Expects, ReadsAs}
+use Rattle.kt_parser_steps.specs.declared.refused.Refused.{Refused}
 use Rattle.kt_tree.specs.declared.tokens.Token.{Token}
 use Rattle.kt_grammar.specs.Terminals.{Meaning}
 use Rattle.kt_grammar.specs.Readers.{meant}
 
 pub reads_from : {T A B : Type 0} (tree : A → B) (o o' : Outcome T B) → o ≡ o' → (r : Result A ParseError) (new : Cursor T) → ReadsAs tree o' r new → ReadsAs tree o r new
 reads_from tree o o' e r new h = subst (λ (z : Outcome _ _). ReadsAs tree z r new) (sym e) h
+
+pub expects_from : {T A B : Type 0} (view : A → B) (o o' : Outcome T B) → o ≡ o' → (r : Result A Refused) (new : Cursor T) → Expects view o' r new → Expects view o r new
+expects_from view o o' e r new h = subst (λ (z : Outcome _ _). Expects view z r new) (sym e) h
 
 -- what a call gave, where a closure gives it on
 pub reads_on : {T A B : Type 0} (tree : A → B) (o : Outcome T B) (x r : Result A ParseError) (c new : Cursor T) → ReadsAs tree o x c → (r ≡ x) × (new ≡ c) → ReadsAs tree o r new

@@ -8,15 +8,19 @@ pub mod loops;
 pub mod meanings;
 pub mod node;
 pub mod owned;
+pub mod refused;
 pub mod steps;
 pub mod takes;
 
-pub use choices::{attempt_if, class_ahead_if, class_if, keyword_if, sign_if, soft_keyword_if};
+pub use choices::{
+    attempt_if, class_ahead_if, class_if, keyword_if, part_if, sign_if, soft_keyword_if,
+};
 pub use lists::{Lead, comma_list, maybe_comma_list, separated, several};
 pub use loops::{Turn, repeat};
 pub use meanings::BinaryLevel;
 pub use node::Node;
 pub use owned::beside;
+pub use refused::Refused;
 pub use steps::{
     class_ahead, expect, expect_identifier, expect_keyword, expect_soft_keyword, meant, meant_text,
     name_of, sign_ahead,

@@ -1,5 +1,3 @@
-use Rattle.std.proofs.Common.{Ok}
-use Rattle.kt_tree.specs.Bodies.{expression_tree}
 use Rattle.kt_parser_steps.proofs.Choosing.{next_reads, next_passes}
 use Rattle.kt_parser_steps.proofs.Optional.{so_made}
 use Rattle.kt_parser_primaries.proofs.primaries.Primaries.return_rest.Goals as goal
@@ -8,4 +6,4 @@ pub returns-then-class_ahead : goal.returns-then-class_ahead
 returns-then-class_ahead g c = next_reads _ _ _ _ _ _ _ _ c.if-class_ahead.ensures c.returned_value.ensures
 
 pub returns-in_ok-return_with : goal.returns-in_ok-return_with
-returns-in_ok-return_with g c = next_passes expression_tree _ _ _ _ _ c.class_ahead.new.tokens (Ok c.in_ok-return_with.field-0) _ c.if-class_ahead.ensures (so_made _ _ _ c.in_ok-return_with.ensures)
+returns-in_ok-return_with g c = next_passes _ _ _ _ _ _ c.if-class_ahead.ensures (so_made _ _ _ c.in_ok-return_with.ensures)
