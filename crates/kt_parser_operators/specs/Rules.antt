@@ -41,6 +41,10 @@ right_operand level.Multiplicative = precedence.Cast
 abbrev pub member_rest : ExpressionTree → Bool → Parser Token (ExpressionTree ⊎ ExpressionTree)
 member_rest a safe = lines >> (token is_identifier >>= (λ x. pure (inl (e.member (place a) a safe (name_of x)))))
 
+-- a member, where there is room for one
+abbrev pub member_turn : Bool → ExpressionTree → Parser Token (ExpressionTree ⊎ ExpressionTree)
+member_turn allowed a = attempt_if allowed member_sign (λ safe. member_rest a safe.1) (pure (inr a))
+
 abbrev pub type_arguments_of_call : ℕ → Parser Token (List TypeTree)
 type_arguments_of_call n = p.type_arguments_of_call (suc n) (parsers n) outside
 
@@ -67,10 +71,6 @@ module _ (n : ℕ) (at : Context) where
 
   abbrev pub call_arguments : Parser Token (List ExpressionTree)
   call_arguments = p.call_parser (suc n) (parsers n) at
-
-  -- a member, where there is room for one
-  abbrev pub member_turn : Bool → ExpressionTree → Parser Token (ExpressionTree ⊎ ExpressionTree)
-  member_turn allowed a = attempt_if allowed member_sign (λ safe. member_rest a safe.1) (pure (inr a))
 
   -- a suffix that is no call
   abbrev pub other_suffix_turn : ExpressionTree → Parser Token (ExpressionTree ⊎ ExpressionTree)
