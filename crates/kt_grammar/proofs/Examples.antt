@@ -320,6 +320,11 @@ statement_57 : refused_in (body (at (kind.Keyword word.Return) ∷ [])) ≡ None
 unfolding file_parser further token skip on attempt loop ahead meant type_parser parsers most_levels same_keyword same_sign
 statement_57 = refl
 
+-- return ( )
+statement_return_called : refused_in (body (at (kind.Keyword word.Return) ∷ at (kind.Sign sign.OpenParenthesis) ∷ at (kind.Sign sign.CloseParenthesis) ∷ [])) ≡ Some 7
+unfolding file_parser further token skip on attempt loop ahead meant type_parser parsers most_levels same_keyword same_sign
+statement_return_called = refl
+
 -- return 1 + 2
 statement_58 : refused_in (body (at (kind.Keyword word.Return) ∷ number 1 ∷ at (kind.Sign sign.Plus) ∷ number 2 ∷ [])) ≡ None
 unfolding file_parser further token skip on attempt loop ahead meant type_parser parsers most_levels same_keyword same_sign

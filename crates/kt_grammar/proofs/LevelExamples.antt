@@ -161,8 +161,3 @@ branches_200 = refl
 branches_201 : refused_in (body (wrapped 197 (sign_of sign.OpenParenthesis ∷ []) (at (kind.Keyword word.If) ∷ c_in_parentheses ++ x ++ at (kind.Keyword word.Else) ∷ x ++ sign_of sign.OpenBrace ∷ x ++ sign_of sign.CloseBrace ∷ []) (sign_of sign.CloseParenthesis ∷ []))) ≡ Some 210
 unfolding file_parser further token skip on attempt loop ahead meant type_parser parsers most_levels same_keyword same_sign
 branches_201 = refl
-
--- trial
-typed_200 : refused_in (body (at (kind.Keyword word.When) ∷ c_in_parentheses ++ sign_of sign.OpenBrace ∷ x ++ sign_of sign.Less ∷ x ++ sign_of sign.Comma ∷ c_in_parentheses ++ sign_of sign.Arrow ∷ nested 196 ++ sign_of sign.Greater ∷ c_in_parentheses ++ sign_of sign.CloseBrace ∷ [])) ≡ None
-unfolding file_parser further token skip on attempt loop ahead meant type_parser parsers most_levels same_keyword same_sign
-typed_200 = refl
