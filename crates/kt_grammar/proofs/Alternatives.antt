@@ -6,8 +6,8 @@ use Rattle.kt_tree.specs.declared.tokens.TokenKind.TheVariants as kind
 use Rattle.kt_tree.specs.declared.tokens.Keyword.{Keyword}
 use Rattle.kt_tree.specs.declared.tokens.Sign.{Sign}
 use Rattle.kt_tree.specs.Tokens.{kind_is_sign, kind_is_keyword}
-use Rattle.kt_grammar.specs.Parsers.{Parser, first, on}
-use Rattle.kt_grammar.specs.Phrases.{IsToken, Seq, Either, If}
+use Rattle.kt_grammar_parsers.specs.Parsers.{Parser, first, on}
+use Rattle.kt_grammar_parsers.specs.Phrases.{IsToken, Seq, Either, If}
 use Rattle.kt_grammar.specs.Words.{Empty}
 use Rattle.kt_grammar.specs.Readers.{on_if}
 use Rattle.kt_grammar.proofs.Sequences.{Part, Anything, Closes}

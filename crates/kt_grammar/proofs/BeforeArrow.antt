@@ -5,7 +5,7 @@ use Rattle.kt_tree.specs.declared.tokens.TokenKind.{TokenKind}
 use Rattle.kt_tree.specs.declared.tokens.TokenKind.TheVariants as kind
 use Rattle.kt_tree.specs.declared.tokens.Sign.TheVariants as sign
 use Rattle.kt_tree.specs.Tokens.{same_sign, kind_is_sign, is_sign, is_new_line}
-use Rattle.kt_grammar.specs.Parsers.{Parser, first, pure}
+use Rattle.kt_grammar_parsers.specs.Parsers.{Parser, first, pure}
 use Rattle.kt_grammar.specs.Words.{Directly, Several}
 use Rattle.kt_grammar.specs.Readers.{several_items}
 use Rattle.kt_grammar.proofs.TypesRead.{a_sign}

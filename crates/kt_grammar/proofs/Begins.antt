@@ -7,8 +7,8 @@ use Rattle.kt_tree.specs.declared.tokens.Keyword.{Keyword}
 use Rattle.kt_tree.specs.declared.tokens.Keyword.TheVariants as word
 use Rattle.kt_tree.specs.declared.tokens.Sign.{Sign}
 use Rattle.kt_tree.specs.declared.tokens.Sign.TheVariants as sign
-use Rattle.kt_grammar.specs.Parsers.{first}
-use Rattle.kt_grammar.specs.Phrases.{IsToken, Seq, Either, NotReads}
+use Rattle.kt_grammar_parsers.specs.Parsers.{first}
+use Rattle.kt_grammar_parsers.specs.Phrases.{IsToken, Seq, Either, NotReads}
 pub use Rattle.kt_grammar.specs.Terminals.{kind_begins_expression, keyword_begins_expression}
 
 -- ---- tests

@@ -4,14 +4,14 @@ use Rattle.kt_tree.specs.declared.tokens.Token.{Token}
 use Rattle.kt_tree.specs.declared.tokens.TokenKind.{TokenKind}
 use Rattle.kt_tree.specs.declared.tokens.Sign.TheVariants as sign
 use Rattle.kt_tree.specs.Tokens.{kind_is_sign, kind_is_identifier, is_sign}
-use Rattle.kt_grammar.specs.Parsers.{Cursor, Parser, further, first, some_levels}
+use Rattle.kt_grammar_parsers.specs.Parsers.{Cursor, Parser, further, first, some_levels}
 use Rattle.kt_grammar.specs.Terminals.{either}
 use Rattle.kt_grammar.specs.Levels.{Phrases}
 use Rattle.kt_grammar.specs.declared.context.Context.{Context}
 use Rattle.kt_grammar.specs.ExpressionParser.{Parsers}
-use Rattle.kt_grammar.proofs.Correct.{Correct}
-use Rattle.kt_grammar.proofs.Steps.{Any}
-use Rattle.kt_grammar.proofs.On.{Phrase}
+use Rattle.kt_grammar_parsers.proofs.Correct.{Correct}
+use Rattle.kt_grammar_parsers.proofs.Steps.{Any}
+use Rattle.kt_grammar_parsers.proofs.On.{Phrase}
 use Rattle.kt_grammar.proofs.Closing.{is_closing}
 use Rattle.kt_grammar.proofs.Sequences.{Part, Anything, Closes}
 use Rattle.kt_grammar.proofs.Begins.{kind_begins_expression, kind_begins_statement, kind_begins_condition, kind_begins_entry, kind_begins_part, Begins}

@@ -7,7 +7,7 @@ use Rattle.kt_tree.specs.declared.tokens.Sign.TheVariants as sign
 use Rattle.kt_tree.specs.Tokens.{same_sign, is_sign}
 use Rattle.kt_tree.specs.Bodies as e
 use Rattle.kt_tree.specs.Bodies.{StatementTree, statements_of}
-use Rattle.kt_grammar.specs.Parsers.{Parser}
+use Rattle.kt_grammar_parsers.specs.Parsers.{Parser}
 use Rattle.kt_grammar.specs.Terminals.{is_separator}
 use Rattle.kt_grammar.specs.Words.{Items}
 use Rattle.kt_grammar.specs.Readers.{separated}

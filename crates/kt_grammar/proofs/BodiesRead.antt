@@ -10,8 +10,8 @@ use Rattle.kt_tree.specs.declared.tokens.Sign.TheVariants as sign
 use Rattle.kt_tree.specs.Tokens.{same_sign, same_keyword, kind_is_sign, kind_is_keyword, is_sign, is_keyword, is_identifier}
 use Rattle.kt_tree.specs.Bodies as e
 use Rattle.kt_tree.specs.Bodies.{ExpressionTree, StatementTree, BodyTree, maybe_expression}
-use Rattle.kt_grammar.specs.Parsers.{Parser, first, some_levels, ◌>>=◌, pure, on, attempt}
-use Rattle.kt_grammar.specs.Phrases.{IsNothing, IsToken, Seq, Either, NotReads}
+use Rattle.kt_grammar_parsers.specs.Parsers.{Parser, first, some_levels, ◌>>=◌, pure, on, attempt}
+use Rattle.kt_grammar_parsers.specs.Phrases.{IsNothing, IsToken, Seq, Either, NotReads}
 use Rattle.kt_grammar.specs.Words.{IsMeant, Maybe}
 use Rattle.kt_grammar.specs.Terminals.{variable_of, name_of, means, nothing}
 use Rattle.kt_grammar.specs.Types.{IsType}
@@ -25,7 +25,7 @@ use Rattle.kt_grammar.specs.StatementParser.{local_rest, simple, while_rest, do_
 use Rattle.kt_grammar.proofs.TypesRead.{a_sign}
 use Rattle.kt_grammar.proofs.Sequences.{Part, Anything, Closes, then, made}
 use Rattle.kt_grammar.proofs.Choices.{either_part, on_part, same_part, seq_left, seq_right}
-use Rattle.kt_grammar.proofs.Optional.{seq_begins}
+use Rattle.kt_grammar_parsers.proofs.Optional.{seq_begins}
 use Rattle.kt_grammar.proofs.Begins.{of_kind, Begins, kind_begins_expression, kind_begins_statement, keyword_begins_expression, keyword_begins_statement, first_yes, first_no, first_of_front, begins_no, begins_eats, seq_begins_with, either_begins_with, token_begins_with}
 use Rattle.kt_grammar.proofs.Below.{Halts, ReadsBelow}
 use Rattle.kt_grammar.proofs.Meanings.{closes_halts, meant_part}

@@ -14,8 +14,8 @@ use Rattle.kt_tree.specs.Types.{named, types_of}
 use Rattle.kt_tree.specs.Tokens.{is_identifier, is_keyword, is_new_line, is_sign, kind_is_identifier, kind_is_new_line, kind_is_sign, same_sign, same_keyword, is_soft_keyword}
 use Rattle.kt_tree.specs.Declarations as d
 use Rattle.kt_tree.specs.Declarations.{ClassTree, InterfaceTree, PropertyTree, SuperArgumentsTree}
-use Rattle.kt_grammar.specs.Parsers.{Parser, behind, first, pure, some_levels, ◌>>=◌}
-use Rattle.kt_grammar.specs.Phrases.{IsToken, Loop, MoreTurn, NotReads, Seq, IsNothing}
+use Rattle.kt_grammar_parsers.specs.Parsers.{Parser, behind, first, pure, some_levels, ◌>>=◌}
+use Rattle.kt_grammar_parsers.specs.Phrases.{IsToken, Loop, MoreTurn, NotReads, Seq, IsNothing}
 use Rattle.kt_grammar.specs.Terminals.{is_separator, kind_is_end, name_of, means, nothing, variable_of}
 use Rattle.kt_grammar.specs.Words.{Directly, IsPast, IsMeant, MaybeCommaList}
 use Rattle.kt_grammar.specs.Types.{IsNamedType, IsType}
@@ -24,7 +24,7 @@ use Rattle.kt_grammar.specs.Declarations.{IsClassWord, IsMembers, IsSupertypes, 
 use Rattle.kt_grammar.specs.Readers.{type_parser, maybe_commas, meant}
 use Rattle.kt_grammar.specs.StatementParser.{parsers}
 use Rattle.kt_grammar.specs.DeclarationParser.{class_word, members, parent, supertypes, class_rest, interface_rest, member, property_rest, supertype}
-use Rattle.kt_grammar.proofs.Optional.{not_reads, seq_begins, token_begins}
+use Rattle.kt_grammar_parsers.proofs.Optional.{not_reads, seq_begins, token_begins}
 use Rattle.kt_grammar.proofs.TypesRead.{a_name, a_sign, named_type_correct, type_phrase, types_correct, no_arguments}
 use Rattle.kt_grammar.proofs.Closing.{kind_end, kind_sign}
 use Rattle.kt_grammar.proofs.Sequences.{Anything, Closes, Part, made, not_past, part_of, past, then, where_part, any_part}

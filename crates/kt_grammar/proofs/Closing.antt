@@ -7,10 +7,10 @@ use Rattle.kt_tree.specs.declared.tokens.Sign.{Sign}
 use Rattle.kt_tree.specs.declared.tokens.Sign.TheVariants as sign
 use Rattle.kt_tree.specs.Tokens.{same_sign, kind_is_sign, is_sign}
 use Rattle.kt_tree.specs.Types.{TypeTree}
-use Rattle.kt_grammar.specs.Parsers.{first}
+use Rattle.kt_grammar_parsers.specs.Parsers.{first}
 use Rattle.kt_grammar.specs.Terminals.{either, is_end, kind_is_end}
 use Rattle.kt_grammar.proofs.Apart.{same_sign_is}
-use Rattle.kt_grammar.proofs.Steps.{truth}
+use Rattle.kt_grammar_parsers.proofs.Steps.{truth}
 use Rattle.kt_grammar.proofs.TypesRead.{TypeEnds}
 
 -- the end, `)`, `]`, `}`, `,` or `..`

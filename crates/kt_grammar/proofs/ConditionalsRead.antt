@@ -9,8 +9,8 @@ use Rattle.kt_tree.specs.declared.tokens.Keyword.TheVariants as word
 use Rattle.kt_tree.specs.Tokens.{same_sign, kind_is_sign, kind_is_keyword, is_sign, is_keyword, is_new_line}
 use Rattle.kt_tree.specs.Bodies as e
 use Rattle.kt_tree.specs.Bodies.{ExpressionTree, maybe_expression, entries_of}
-use Rattle.kt_grammar.specs.Parsers.{first, some_levels, ◌>>◌, token, skip}
-use Rattle.kt_grammar.specs.Phrases.{IsNothing, IsToken, Seq, NotReads, FirstOf, WhereRoom}
+use Rattle.kt_grammar_parsers.specs.Parsers.{first, some_levels, ◌>>◌, token, skip}
+use Rattle.kt_grammar_parsers.specs.Phrases.{IsNothing, IsToken, Seq, NotReads, FirstOf, WhereRoom}
 use Rattle.kt_grammar.specs.Terminals.{is_no_arrow}
 use Rattle.kt_grammar.specs.Words.{IsPast, Items}
 use Rattle.kt_grammar.specs.Levels.{Phrases}

@@ -14,15 +14,15 @@ use Rattle.kt_tree.specs.declared.declarations.ConstantValue.TheVariants as valu
 use Rattle.kt_tree.specs.Declarations as d
 use Rattle.kt_tree.specs.Declarations.{ConstantTree, DeclarationTree}
 use Rattle.kt_tree.specs.Tokens.{is_identifier, is_keyword, is_new_line, is_sign, kind_is_new_line, kind_is_sign, same_sign}
-use Rattle.kt_grammar.specs.Parsers.{◌>>=◌, first, on, pure, repeat}
-use Rattle.kt_grammar.specs.Phrases.{Either, FirstOf, IsNothing, IsSkipped, IsToken, Loop, MoreTurn, NotReads, Seq}
+use Rattle.kt_grammar_parsers.specs.Parsers.{◌>>=◌, first, on, pure, repeat}
+use Rattle.kt_grammar_parsers.specs.Phrases.{Either, FirstOf, IsNothing, IsSkipped, IsToken, Loop, MoreTurn, NotReads, Seq}
 use Rattle.kt_grammar.specs.Terminals.{is_close_quote, is_open_quote, kind_is_close_quote, kind_is_open_quote, kind_literal, kind_text, literal_of, name_of, text_of}
 use Rattle.kt_grammar.specs.Words.{IsMeant, IsPast, Maybe, Several}
 use Rattle.kt_grammar.specs.Types.{IsType}
 use Rattle.kt_grammar.specs.Declarations.{IsConstantLiteral, IsConstantText, IsEnumEntry, TextTurn, most_levels}
 use Rattle.kt_grammar.specs.Readers.{lines, meant, several_items}
 use Rattle.kt_grammar.specs.DeclarationParser.{constant_rest, constant_value, enum_entry, enum_rest, text_turn}
-use Rattle.kt_grammar.proofs.Optional.{not_reads, seq_begins, token_begins}
+use Rattle.kt_grammar_parsers.proofs.Optional.{not_reads, seq_begins, token_begins}
 use Rattle.kt_grammar.proofs.TypesRead.{a_sign}
 use Rattle.kt_grammar.proofs.Closing.{kind_sign}
 use Rattle.kt_grammar.proofs.Sequences.{Anything, Part, any_part, made, not_past, one, past, then}

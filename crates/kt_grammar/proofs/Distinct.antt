@@ -7,11 +7,11 @@ use Rattle.kt_tree.specs.declared.tokens.TokenKind.TheVariants as kind
 use Rattle.kt_tree.specs.declared.tokens.Keyword.{Keyword}
 use Rattle.kt_tree.specs.declared.tokens.Sign.{Sign}
 use Rattle.kt_tree.specs.Tokens.{kind_is_sign, kind_is_keyword, kind_is_new_line, is_sign, is_keyword, is_new_line}
-use Rattle.kt_grammar.specs.Parsers.{first}
-use Rattle.kt_grammar.specs.Phrases.{IsToken, NotReads}
+use Rattle.kt_grammar_parsers.specs.Parsers.{first}
+use Rattle.kt_grammar_parsers.specs.Phrases.{IsToken, NotReads}
 use Rattle.kt_grammar.specs.Terminals.{Meaning, means}
 use Rattle.kt_grammar.specs.Words.{IsMeant}
-use Rattle.kt_grammar.proofs.Steps.{truth}
+use Rattle.kt_grammar_parsers.proofs.Steps.{truth}
 use Rattle.kt_grammar.proofs.Apart.{same_keyword_is}
 use Rattle.kt_grammar.proofs.Closing.{kind_sign}
 use Rattle.kt_grammar.proofs.Begins.{of_kind}

@@ -7,16 +7,16 @@ use Rattle.kt_tree.specs.declared.tokens.TokenKind.{TokenKind}
 use Rattle.kt_tree.specs.declared.tokens.TokenKind.TheVariants as kind
 use Rattle.kt_tree.specs.declared.tokens.Sign.TheVariants as sign
 use Rattle.kt_tree.specs.Tokens.{same_sign, kind_is_sign, is_sign}
-use Rattle.kt_grammar.specs.Parsers.{Parser, first, repeat, several, token, ◌>>◌}
-use Rattle.kt_grammar.specs.Phrases.{IsToken, IsSkipped, AllPass, Seq, Either, If, Loop, ends, NotReads, Several}
+use Rattle.kt_grammar_parsers.specs.Parsers.{Parser, first, repeat, several, token, ◌>>◌}
+use Rattle.kt_grammar_parsers.specs.Phrases.{IsToken, IsSkipped, AllPass, Seq, Either, If, Loop, ends, NotReads, Several}
 use Rattle.kt_grammar.specs.Terminals.{is_separator}
 use Rattle.kt_grammar.specs.Words.{MaybeCommaList, Items}
 use Rattle.kt_grammar.specs.Readers.{maybe_commas, separated}
-use Rattle.kt_grammar.proofs.Correct.{Correct}
-use Rattle.kt_grammar.proofs.Steps.{Any}
+use Rattle.kt_grammar_parsers.proofs.Correct.{Correct}
+use Rattle.kt_grammar_parsers.proofs.Steps.{Any}
 use Rattle.kt_grammar.proofs.Apart.{signs_apart}
-use Rattle.kt_grammar.proofs.Repeat.{repeat_correct}
-use Rattle.kt_grammar.proofs.Forms.{several_correct}
+use Rattle.kt_grammar_parsers.proofs.Repeat.{repeat_correct}
+use Rattle.kt_grammar_parsers.proofs.Forms.{several_correct}
 use Rattle.kt_grammar.proofs.TypesRead.{a_sign}
 use Rattle.kt_grammar.proofs.Sequences.{Part, Anything, phrase_of}
 use Rattle.kt_grammar.proofs.Choices.{same_part}

@@ -9,8 +9,8 @@ use Rattle.kt_tree.specs.declared.tokens.Sign.TheVariants as sign
 use Rattle.kt_tree.specs.Tokens.{same_sign, same_keyword, kind_is_sign, is_sign, is_keyword, is_new_line}
 use Rattle.kt_tree.specs.Bodies as e
 use Rattle.kt_tree.specs.Bodies.{ExpressionTree, BodyTree, EntryTree, ConditionTree, CatchTree, conditions_of}
-use Rattle.kt_grammar.specs.Parsers.{Cursor, Outcome, Parser, cursor, and_then, further, first, some_levels, ◌>>=◌, pure, repeat, more_turn, attempt}
-use Rattle.kt_grammar.specs.Phrases.{IsNothing, IsToken, Seq, Either, NotReads}
+use Rattle.kt_grammar_parsers.specs.Parsers.{Cursor, Outcome, Parser, cursor, and_then, further, first, some_levels, ◌>>=◌, pure, repeat, more_turn, attempt}
+use Rattle.kt_grammar_parsers.specs.Phrases.{IsNothing, IsToken, Seq, Either, NotReads}
 use Rattle.kt_grammar.specs.Words.{Empty, IsMeant, IsPast, Several, Directly}
 use Rattle.kt_grammar.specs.Terminals.{Meaning, type_check_of, means, nothing}
 use Rattle.kt_grammar.specs.Types.{IsType}
@@ -21,14 +21,14 @@ use Rattle.kt_grammar.specs.Readers.{meant, several_items, type_parser}
 use Rattle.kt_grammar.specs.ExpressionParser.{Parsers}
 use Rattle.kt_grammar.specs.StatementParser.{condition_parser, refused_if, entry_head, entry_rest, entry_parser, catch_parser}
 use Rattle.kt_grammar.proofs.TypesRead.{a_sign}
-use Rattle.kt_grammar.proofs.Ends.{tied_move}
-use Rattle.kt_grammar.proofs.Correct.{Correct, below as below_n, correct, same_parser, same_language, which}
-use Rattle.kt_grammar.proofs.Steps.{Any, truth, pure_correct}
-use Rattle.kt_grammar.proofs.Forms.{from_true, from_false}
+use Rattle.kt_grammar_parsers.proofs.Ends.{tied_move}
+use Rattle.kt_grammar_parsers.proofs.Correct.{Correct, below as below_n, correct, same_parser, same_language, which}
+use Rattle.kt_grammar_parsers.proofs.Steps.{Any, truth, pure_correct}
+use Rattle.kt_grammar_parsers.proofs.Forms.{from_true, from_false}
 use Rattle.kt_grammar.proofs.Meant.{meant_is_refused}
 use Rattle.kt_grammar.proofs.Meanings.{meant_part}
 use Rattle.kt_grammar.proofs.Left.{further_again, on_dead_correct}
-use Rattle.kt_grammar.proofs.On.{Phrase}
+use Rattle.kt_grammar_parsers.proofs.On.{Phrase}
 use Rattle.kt_grammar.proofs.Closing.{kind_sign}
 use Rattle.kt_grammar.proofs.Sequences.{Part, Anything, Closes, then, made}
 use Rattle.kt_grammar.proofs.Choices.{either_part, on_part, past_then}

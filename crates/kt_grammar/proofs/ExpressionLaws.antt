@@ -2,15 +2,15 @@
 use Rattle.std.proofs.Common.{◌≡◌, ℕ, suc, true, List, [], refl}
 use Rattle.kt_tree.specs.declared.tokens.Token.{Token}
 use Rattle.kt_tree.specs.declared.tokens.TokenKind.{TokenKind}
-use Rattle.kt_grammar.specs.Parsers.{Parser, cursor, some_levels}
-use Rattle.kt_grammar.specs.Sentences.{OneValue}
+use Rattle.kt_grammar_parsers.specs.Parsers.{Parser, cursor, some_levels}
+use Rattle.kt_grammar_parsers.specs.Sentences.{OneValue}
 use Rattle.kt_grammar.specs.Statements.{phrases}
 use Rattle.kt_grammar.specs.StatementParser.{parsers}
 use Rattle.kt_grammar.specs.Laws.{SentencesAreRead, ReadsSentences, RefusesFirst, OneExpression, ExpressionIsRead, ExpressionIsRefused, ExpressionReadsExpressions, OneStatement, StatementIsRead, StatementIsRefused, StatementReadsStatements}
-use Rattle.kt_grammar.proofs.Steps.{Any}
-use Rattle.kt_grammar.proofs.On.{Phrase}
+use Rattle.kt_grammar_parsers.proofs.Steps.{Any}
+use Rattle.kt_grammar_parsers.proofs.On.{Phrase}
 use Rattle.kt_grammar.proofs.Sequences.{Closes, phrase_of}
-use Rattle.kt_grammar.proofs.Whole.{one_value, read_is_sentence, sentence_is_read, refused_at_first}
+use Rattle.kt_grammar_parsers.proofs.Whole.{one_value, read_is_sentence, sentence_is_read, refused_at_first}
 use Rattle.kt_grammar.proofs.Below.{IsExpressionRead}
 use Rattle.kt_grammar.proofs.Productions.{from_read}
 use Rattle.kt_grammar.proofs.LevelsRead.{levels_read}

@@ -1,6 +1,6 @@
 -- The laws on files.
 use Rattle.std.proofs.Common.{[], refl}
-use Rattle.kt_grammar.specs.Parsers.{cursor}
+use Rattle.kt_grammar_parsers.specs.Parsers.{cursor}
 use Rattle.kt_grammar.specs.Declarations.{OneTree, most_levels}
 use Rattle.kt_grammar.specs.Laws.{FileHasLevels, FileIsRead, FileIsRefused, FileReadsFiles}
 use Rattle.kt_grammar.proofs.FunctionsRead.{Expressions, Statements}

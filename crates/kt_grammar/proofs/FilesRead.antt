@@ -9,16 +9,16 @@ use Rattle.kt_tree.specs.declared.tokens.Token.{Token}
 use Rattle.kt_tree.specs.Declarations as d
 use Rattle.kt_tree.specs.Declarations.{DeclarationTree}
 use Rattle.kt_tree.specs.Tokens.{is_identifier, is_keyword, is_soft_keyword, kind_is_identifier, kind_is_keyword, same_keyword, same_sign}
-use Rattle.kt_grammar.specs.Parsers.{◌>>=◌, Cursor, attempt, behind, cursor, first, pure, some_levels}
-use Rattle.kt_grammar.specs.Phrases.{Either, IsNothing, IsToken, NotReads, Seq}
+use Rattle.kt_grammar_parsers.specs.Parsers.{◌>>=◌, Cursor, attempt, behind, cursor, first, pure, some_levels}
+use Rattle.kt_grammar_parsers.specs.Phrases.{Either, IsNothing, IsToken, NotReads, Seq}
 use Rattle.kt_grammar.specs.Terminals.{kind_is_end}
 use Rattle.kt_grammar.specs.Statements.{phrases}
 use Rattle.kt_grammar.specs.Declarations.{IsClassWord, IsDeclaration, IsFile, IsFileOf, IsFileRefusedAt, IsFunction, OneTree, at_top, most_levels, outside}
 use Rattle.kt_grammar.specs.StatementParser.{parsers}
 use Rattle.kt_grammar.specs.DeclarationParser.{class_rest, class_word, declaration_parser, file_parser, function_parser}
-use Rattle.kt_grammar.proofs.Correct.{Correct}
-use Rattle.kt_grammar.proofs.Steps.{Any}
-use Rattle.kt_grammar.proofs.Whole.{one_value, read_is_sentence, refused_at_first, sentence_is_read}
+use Rattle.kt_grammar_parsers.proofs.Correct.{Correct}
+use Rattle.kt_grammar_parsers.proofs.Steps.{Any}
+use Rattle.kt_grammar_parsers.proofs.Whole.{one_value, read_is_sentence, refused_at_first, sentence_is_read}
 use Rattle.kt_grammar.proofs.Closing.{goes_on, kind_end}
 use Rattle.kt_grammar.proofs.Sequences.{Anything, Closes, Part, made, phrase_of, then}
 use Rattle.kt_grammar.proofs.Choices.{either_part, on_part, same_part, seq_left, seq_right}

@@ -4,13 +4,13 @@ use Rattle.kt_tree.specs.declared.tokens.Token.{Token}
 use Rattle.kt_tree.specs.declared.tokens.TokenKind.{TokenKind}
 use Rattle.kt_tree.specs.declared.tokens.TokenKind.TheVariants as kind
 use Rattle.kt_tree.specs.Tokens.{is_new_line}
-use Rattle.kt_grammar.specs.Parsers.{Parser, first, skip, ahead, attempt_if}
-use Rattle.kt_grammar.specs.Phrases.{AllPass, IsSkipped, IsAhead, Seq, NotReads, If, WhereRoom}
+use Rattle.kt_grammar_parsers.specs.Parsers.{Parser, first, skip, ahead, attempt_if}
+use Rattle.kt_grammar_parsers.specs.Phrases.{AllPass, IsSkipped, IsAhead, Seq, NotReads, If, WhereRoom}
 use Rattle.kt_grammar.specs.Terminals.{Meaning}
 use Rattle.kt_grammar.specs.Words.{Empty, IsMeant, IsPast}
-use Rattle.kt_grammar.proofs.Steps.{Any, truth}
-use Rattle.kt_grammar.proofs.Skip.{skip_correct}
-use Rattle.kt_grammar.proofs.Forms.{ahead_correct}
+use Rattle.kt_grammar_parsers.proofs.Steps.{Any, truth}
+use Rattle.kt_grammar_parsers.proofs.Skip.{skip_correct}
+use Rattle.kt_grammar_parsers.proofs.Forms.{ahead_correct}
 use Rattle.kt_grammar.proofs.Sequences.{Part, room_part}
 use Rattle.kt_grammar.proofs.Distinct.{kind_new_line}
 use Rattle.kt_grammar.proofs.Begins.{of_kind, Begins}

@@ -7,13 +7,13 @@ use Rattle.kt_tree.specs.declared.tokens.Sign.{Sign}
 use Rattle.kt_tree.specs.declared.tokens.Sign.TheVariants as sign
 use Rattle.kt_tree.specs.Tokens.{kind_is_sign, is_sign, is_new_line}
 use Rattle.kt_tree.specs.Types.{TypeTree}
-use Rattle.kt_grammar.specs.Parsers.{Parser, first, some_levels}
-use Rattle.kt_grammar.specs.Phrases.{IsToken}
+use Rattle.kt_grammar_parsers.specs.Parsers.{Parser, first, some_levels}
+use Rattle.kt_grammar_parsers.specs.Phrases.{IsToken}
 use Rattle.kt_grammar.specs.Types.{IsType}
 use Rattle.kt_grammar.specs.Declarations.{most_levels}
 use Rattle.kt_grammar.specs.Readers.{type_parser}
-use Rattle.kt_grammar.proofs.Correct.{below, correct, same_language}
-use Rattle.kt_grammar.proofs.Steps.{Any, truth}
+use Rattle.kt_grammar_parsers.proofs.Correct.{below, correct, same_language}
+use Rattle.kt_grammar_parsers.proofs.Steps.{Any, truth}
 use Rattle.kt_grammar.proofs.TypesRead.{TypeEnds, types_correct, type_phrase}
 use Rattle.kt_grammar.proofs.Closing.{kind_sign, closed_no}
 use Rattle.kt_grammar.proofs.Sequences.{Part, Anything, Closes}

@@ -12,8 +12,8 @@ use Rattle.kt_tree.specs.Declarations as d
 use Rattle.kt_tree.specs.Bodies.{ExpressionTree}
 use Rattle.kt_tree.specs.Declarations.{FunctionBodyTree}
 use Rattle.kt_tree.specs.Tokens.{is_new_line, is_sign, kind_is_identifier, kind_is_new_line, same_sign, is_identifier, is_keyword, is_soft_keyword}
-use Rattle.kt_grammar.specs.Parsers.{◌>>=◌, ◌>>◌, first, pure, behind}
-use Rattle.kt_grammar.specs.Phrases.{If, IsNothing, IsToken, Seq}
+use Rattle.kt_grammar_parsers.specs.Parsers.{◌>>=◌, ◌>>◌, first, pure, behind}
+use Rattle.kt_grammar_parsers.specs.Phrases.{If, IsNothing, IsToken, Seq}
 use Rattle.kt_grammar.specs.Terminals.{name_of}
 use Rattle.kt_grammar.specs.Words.{IsPast}
 use Rattle.kt_grammar.specs.Expressions.{IsBlock, IsBlockRest}
@@ -24,7 +24,7 @@ use Rattle.kt_grammar.specs.ExpressionParser.{block_of}
 use Rattle.kt_grammar.specs.StatementParser.{parsers}
 use Rattle.kt_grammar.specs.DeclarationParser.{fun_word, body_if, function_body, function_parser, generic_if}
 use Rattle.kt_grammar.proofs.Apart.{signs_apart}
-use Rattle.kt_grammar.proofs.Optional.{seq_begins}
+use Rattle.kt_grammar_parsers.proofs.Optional.{seq_begins}
 use Rattle.kt_grammar.proofs.TypesRead.{a_sign}
 use Rattle.kt_grammar.proofs.Sequences.{Anything, Part, Closes, then, any_part, made}
 use Rattle.kt_grammar.proofs.Choices.{past_then}

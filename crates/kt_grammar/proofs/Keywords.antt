@@ -5,10 +5,10 @@ use Rattle.kt_tree.specs.declared.tokens.TokenKind.{TokenKind}
 use Rattle.kt_tree.specs.declared.tokens.TokenKind.TheVariants as kind
 use Rattle.kt_tree.specs.declared.tokens.Keyword.{Keyword}
 use Rattle.kt_tree.specs.Tokens.{kind_is_keyword, is_keyword}
-use Rattle.kt_grammar.specs.Parsers.{Parser, first, on}
-use Rattle.kt_grammar.specs.Phrases.{IsToken, Seq, Either}
+use Rattle.kt_grammar_parsers.specs.Parsers.{Parser, first, on}
+use Rattle.kt_grammar_parsers.specs.Phrases.{IsToken, Seq, Either}
 use Rattle.kt_grammar.specs.Readers.{on_if}
-use Rattle.kt_grammar.proofs.Steps.{truth}
+use Rattle.kt_grammar_parsers.proofs.Steps.{truth}
 use Rattle.kt_grammar.proofs.Sequences.{Part, Anything, Closes}
 use Rattle.kt_grammar.proofs.Choices.{same_part, other_part, on_part, on_if_part}
 use Rattle.kt_grammar.proofs.Begins.{of_kind, Begins, begins_no, first_yes, seq_begins_with, token_begins_with, either_begins_with}

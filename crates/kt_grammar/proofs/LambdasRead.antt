@@ -5,15 +5,15 @@ use Rattle.kt_tree.specs.declared.tokens.Sign.TheVariants as sign
 use Rattle.kt_tree.specs.Tokens.{same_sign, kind_is_sign, kind_is_identifier, is_sign, is_identifier, is_new_line}
 use Rattle.kt_tree.specs.Bodies as e
 use Rattle.kt_tree.specs.Bodies.{ExpressionTree, ParameterTree}
-use Rattle.kt_grammar.specs.Parsers.{first, some_levels, pure, attempt_if}
-use Rattle.kt_grammar.specs.Phrases.{IsNothing, IsToken, Seq, FirstOf, NotReads}
+use Rattle.kt_grammar_parsers.specs.Parsers.{first, some_levels, pure, attempt_if}
+use Rattle.kt_grammar_parsers.specs.Phrases.{IsNothing, IsToken, Seq, FirstOf, NotReads}
 use Rattle.kt_grammar.specs.Terminals.{name_of}
 use Rattle.kt_grammar.specs.Words.{IsLines}
 use Rattle.kt_grammar.specs.Levels.{Phrases}
 use Rattle.kt_grammar.specs.declared.context.Context.{Context}
 use Rattle.kt_grammar.specs.Expressions.{IsParameter, IsBlockRest, IsLambdaHead, IsLambda, in_lambda}
 use Rattle.kt_grammar.specs.ExpressionParser.{Parsers, parameter_of, lambda_head, lambda_rest, lambda_parser}
-use Rattle.kt_grammar.proofs.Optional.{not_reads, token_begins}
+use Rattle.kt_grammar_parsers.proofs.Optional.{not_reads, token_begins}
 use Rattle.kt_grammar.proofs.TypesRead.{a_sign, a_name}
 use Rattle.kt_grammar.proofs.TypeParts.{type_part}
 use Rattle.kt_grammar.proofs.Sequences.{Part, Anything, Closes, then, made, any_part, where_part}

@@ -9,7 +9,7 @@ use Rattle.kt_tree.specs.declared.tokens.Sign.TheVariants as sign
 use Rattle.kt_tree.specs.declared.tokens.SoftKeyword.{SoftKeyword}
 use Rattle.kt_tree.specs.declared.tokens.SoftKeyword.TheVariants as soft
 use Rattle.kt_tree.specs.Tokens.{same_keyword, same_sign, spelling}
-use Rattle.kt_grammar.specs.Parsers.{further, token, skip, on, attempt, loop, ahead}
+use Rattle.kt_grammar_parsers.specs.Parsers.{further, token, skip, on, attempt, loop, ahead}
 use Rattle.kt_grammar.specs.Readers.{meant, type_parser}
 use Rattle.kt_grammar.specs.StatementParser.{parsers}
 use Rattle.kt_grammar.specs.Declarations.{most_levels}

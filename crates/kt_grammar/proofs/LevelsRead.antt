@@ -5,7 +5,7 @@ use Rattle.kt_tree.specs.declared.tokens.TokenKind.{TokenKind}
 use Rattle.kt_tree.specs.declared.tokens.Sign.TheVariants as sign
 use Rattle.kt_tree.specs.Tokens.{kind_is_sign}
 use Rattle.kt_tree.specs.Bodies.{ExpressionTree}
-use Rattle.kt_grammar.specs.Parsers.{Parser, some_levels}
+use Rattle.kt_grammar_parsers.specs.Parsers.{Parser, some_levels}
 use Rattle.kt_grammar.specs.Words.{Empty}
 use Rattle.kt_grammar.specs.Readers.{refuse}
 use Rattle.kt_grammar.specs.Levels.{Phrases, none}

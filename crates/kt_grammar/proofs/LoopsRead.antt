@@ -9,8 +9,8 @@ use Rattle.kt_tree.specs.declared.bodies.RangeOperator.TheVariants as range
 use Rattle.kt_tree.specs.Tokens.{same_sign, same_keyword, kind_is_sign, kind_is_keyword, is_sign, is_keyword, is_new_line, is_identifier}
 use Rattle.kt_tree.specs.Bodies as e
 use Rattle.kt_tree.specs.Bodies.{ExpressionTree, StatementTree, BodyTree, BlockTree}
-use Rattle.kt_grammar.specs.Parsers.{Parser, first, some_levels}
-use Rattle.kt_grammar.specs.Phrases.{IsNothing, IsToken, Seq}
+use Rattle.kt_grammar_parsers.specs.Parsers.{Parser, first, some_levels}
+use Rattle.kt_grammar_parsers.specs.Phrases.{IsNothing, IsToken, Seq}
 use Rattle.kt_grammar.specs.Words.{IsMeant, IsPast}
 use Rattle.kt_grammar.specs.Terminals.{range_of, name_of}
 use Rattle.kt_grammar.specs.Levels.{Phrases}
@@ -22,7 +22,7 @@ use Rattle.kt_grammar.specs.ExpressionParser.{Parsers}
 use Rattle.kt_grammar.specs.StatementParser.{while_rest, do_rest, for_rest}
 use Rattle.kt_grammar.proofs.TypesRead.{a_sign, a_name}
 use Rattle.kt_grammar.proofs.Closing.{goes_on}
-use Rattle.kt_grammar.proofs.Optional.{seq_begins}
+use Rattle.kt_grammar_parsers.proofs.Optional.{seq_begins}
 use Rattle.kt_grammar.proofs.Sequences.{Part, Anything, Closes, then, made, one}
 use Rattle.kt_grammar.proofs.Choices.{past_then}
 use Rattle.kt_grammar.proofs.Begins.{kind_begins_expression, kind_begins_statement, begins_no}

@@ -7,13 +7,13 @@ use Rattle.kt_tree.specs.declared.tokens.TokenKind.TheVariants as kind
 use Rattle.kt_tree.specs.declared.tokens.Sign.{Sign}
 use Rattle.kt_tree.specs.declared.tokens.Sign.TheVariants as sign
 use Rattle.kt_tree.specs.Tokens.{kind_is_new_line, is_new_line, is_sign}
-use Rattle.kt_grammar.specs.Parsers.{first, ◌>>◌, skip}
-use Rattle.kt_grammar.specs.Phrases.{IsSkipped, Seq, NotReads}
+use Rattle.kt_grammar_parsers.specs.Parsers.{first, ◌>>◌, skip}
+use Rattle.kt_grammar_parsers.specs.Phrases.{IsSkipped, Seq, NotReads}
 use Rattle.kt_grammar.specs.Terminals.{Meaning}
 use Rattle.kt_grammar.specs.Words.{IsMeant}
 use Rattle.kt_grammar.specs.Readers.{meant}
 use Rattle.kt_grammar.proofs.Meant.{meant_correct}
-use Rattle.kt_grammar.proofs.Steps.{truth}
+use Rattle.kt_grammar_parsers.proofs.Steps.{truth}
 use Rattle.kt_grammar.proofs.Closing.{is_closing, each_closing, not_goes_on, kind_sign}
 use Rattle.kt_grammar.proofs.Begins.{of_kind}
 use Rattle.kt_grammar.proofs.Below.{goes_past, Halts}

@@ -2,13 +2,13 @@
 use Rattle.std.proofs.Common.{◌≡◌, ◌<◌, List, [], ◌∷◌, ◌++◌, length, Option, None, Some, Ok, Err, refl, sym, ap, subst, ◌∙◌, arith, inl, length-append}
 use Rattle.std.proofs.lemmas.List.{append_cancel_right}
 use Rattle.kt_tree.specs.declared.tokens.Token.{Token}
-use Rattle.kt_grammar.specs.Parsers.{Cursor, cursor, further}
+use Rattle.kt_grammar_parsers.specs.Parsers.{Cursor, cursor, further}
 use Rattle.kt_grammar.specs.Terminals.{Meaning}
 use Rattle.kt_grammar.specs.Words.{IsMeant}
 use Rattle.kt_grammar.specs.Readers.{meant, meant_by}
-use Rattle.kt_grammar.proofs.Ends.{further_short}
-use Rattle.kt_grammar.proofs.Correct.{Reading, Refusal, Accepted, Correct}
-use Rattle.kt_grammar.proofs.Steps.{Any, refused_at, mark_moves}
+use Rattle.kt_grammar_parsers.proofs.Ends.{further_short}
+use Rattle.kt_grammar_parsers.proofs.Correct.{Reading, Refusal, Accepted, Correct}
+use Rattle.kt_grammar_parsers.proofs.Steps.{Any, refused_at, mark_moves}
 
 module _ {A : Type 0} (of : Meaning A) (witness : Token) (value : A) (stands : of witness ≡ Some value) (N : Token × A → List Token → Type 0) where
   by_ok : (o : Option A) (t : Token) (ts far : List Token) (found : Token × A) (c : Cursor Token) → meant_by o t ts far ≡ Ok (found, c) → (o ≡ Some found.1) × (t ≡ found.0) × (cursor ts far ≡ c)

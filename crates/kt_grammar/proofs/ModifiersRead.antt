@@ -8,13 +8,13 @@ use Rattle.kt_tree.specs.declared.tokens.TokenKind.TheVariants as kind
 use Rattle.kt_tree.specs.declared.tokens.Keyword.{Keyword}
 use Rattle.kt_tree.specs.declared.tokens.SoftKeyword.{SoftKeyword}
 use Rattle.kt_tree.specs.Tokens.{spelling, kind_is_soft_keyword, kind_is_identifier, kind_is_keyword, is_soft_keyword, is_identifier, is_keyword}
-use Rattle.kt_grammar.specs.Parsers.{Parser, first, behind, ◌>>=◌, pure, token, repeat}
-use Rattle.kt_grammar.specs.Phrases.{IsNothing, IsToken, Seq, Either, If, Loop, ends, turns}
+use Rattle.kt_grammar_parsers.specs.Parsers.{Parser, first, behind, ◌>>=◌, pure, token, repeat}
+use Rattle.kt_grammar_parsers.specs.Phrases.{IsNothing, IsToken, Seq, Either, If, Loop, ends, turns}
 use Rattle.kt_grammar.specs.Words.{Empty}
 use Rattle.kt_grammar.specs.Declarations.{Modified, first_place, start_of, IsModifier, ModifierTurn}
 use Rattle.kt_grammar.specs.DeclarationParser.{modifier}
-use Rattle.kt_grammar.proofs.Steps.{truth}
-use Rattle.kt_grammar.proofs.Behind.{behind_done, behind_more}
+use Rattle.kt_grammar_parsers.proofs.Steps.{truth}
+use Rattle.kt_grammar_parsers.proofs.Behind.{behind_done, behind_more}
 use Rattle.kt_grammar.proofs.Sequences.{Part, Anything, made, then}
 use Rattle.kt_grammar.proofs.Choices.{same_part, other_part, seq_left, seq_right}
 use Rattle.kt_grammar.proofs.Begins.{of_kind, Begins}

@@ -14,14 +14,14 @@ use Rattle.kt_tree.specs.Bodies as e
 use Rattle.kt_tree.specs.Bodies.{ExpressionTree}
 use Rattle.kt_tree.specs.Types.{TypeTree}
 use Rattle.kt_tree.specs.Levels.{levels}
-use Rattle.kt_grammar.specs.Parsers.{Parser, first, ◌>>=◌, ◌>>◌, pure, attempt_if, repeat, chain}
-use Rattle.kt_grammar.specs.Phrases.{IsNothing, Seq, Loop, WhereRoom}
+use Rattle.kt_grammar_parsers.specs.Parsers.{Parser, first, ◌>>=◌, ◌>>◌, pure, attempt_if, repeat, chain}
+use Rattle.kt_grammar_parsers.specs.Phrases.{IsNothing, Seq, Loop, WhereRoom}
 use Rattle.kt_grammar.specs.Terminals.{Meaning, disjunction_of, conjunction_of, equality_of, comparison_of, elvis_of, infix_of, additive_of, multiplicative_of, type_check_of, cast_of}
 use Rattle.kt_grammar.specs.Levels.{Phrases, place}
 use Rattle.kt_grammar.specs.declared.context.Context.{Context}
 use Rattle.kt_grammar.specs.Types.{IsType}
 use Rattle.kt_grammar.specs.Words.{IsMeant, IsLines, IsPast}
-use Rattle.kt_grammar.proofs.Optional.{seq_begins}
+use Rattle.kt_grammar_parsers.proofs.Optional.{seq_begins}
 use Rattle.kt_grammar.specs.Expressions as x
 use Rattle.kt_grammar.specs.Expressions.{IsPrefixed, IsCast, IsMultiplicative, IsAdditive, IsInfix, IsElvis, IsTest, IsComparison, IsEquality, IsConjunction, IsDisjunction}
 use Rattle.kt_grammar.specs.Readers.{meant, lines, type_parser}

@@ -1,14 +1,14 @@
 -- Parts that a token begins and that may be absent.
 use Rattle.std.proofs.Common.{◌≡◌, Bool, true, false, List, [], ◌∷◌, ◌++◌, Option, None, Some, refl, inl, inr}
 use Rattle.kt_tree.specs.declared.tokens.Token.{Token}
-use Rattle.kt_grammar.specs.Parsers.{Parser, first, ◌>>=◌, pure, on}
-use Rattle.kt_grammar.specs.Phrases.{IsNothing, IsToken, Seq, FirstOf, WhereRoom}
+use Rattle.kt_grammar_parsers.specs.Parsers.{Parser, first, ◌>>=◌, pure, on}
+use Rattle.kt_grammar_parsers.specs.Phrases.{IsNothing, IsToken, Seq, FirstOf, WhereRoom}
 use Rattle.kt_grammar.specs.Words.{Maybe}
 use Rattle.kt_grammar.specs.Readers.{on_if, maybe}
-use Rattle.kt_grammar.proofs.Correct.{Correct, below, correct}
-use Rattle.kt_grammar.proofs.Steps.{Any}
-use Rattle.kt_grammar.proofs.Forms.{if_true, if_false}
-use Rattle.kt_grammar.proofs.Optional.{not_reads, token_begins, where_token_correct}
+use Rattle.kt_grammar_parsers.proofs.Correct.{Correct, below, correct}
+use Rattle.kt_grammar_parsers.proofs.Steps.{Any}
+use Rattle.kt_grammar_parsers.proofs.Forms.{if_true, if_false}
+use Rattle.kt_grammar_parsers.proofs.Optional.{not_reads, token_begins, where_token_correct}
 use Rattle.kt_grammar.proofs.Sequences.{Part, Anything, phrase_of, then, made}
 
 -- a part that is empty where Stop holds

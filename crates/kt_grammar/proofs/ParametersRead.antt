@@ -8,15 +8,15 @@ use Rattle.kt_tree.specs.declared.tokens.Keyword.TheVariants as word
 use Rattle.kt_tree.specs.declared.declarations.ConstructorParameterKind.{ConstructorParameterKind}
 use Rattle.kt_tree.specs.declared.declarations.ConstructorParameterKind.TheVariants as parameter
 use Rattle.kt_tree.specs.Tokens.{same_sign, same_keyword, kind_is_sign, kind_is_identifier, is_sign, is_identifier, is_keyword}
-use Rattle.kt_grammar.specs.Parsers.{Parser, first, comma_list, ◌>>=◌, attempt, pure, token}
-use Rattle.kt_grammar.specs.Phrases.{IsToken, CommaList, FirstOf, IsNothing, Seq}
+use Rattle.kt_grammar_parsers.specs.Parsers.{Parser, first, comma_list, ◌>>=◌, attempt, pure, token}
+use Rattle.kt_grammar_parsers.specs.Phrases.{IsToken, CommaList, FirstOf, IsNothing, Seq}
 use Rattle.kt_grammar.specs.Terminals.{name_of, means, nothing}
 use Rattle.kt_grammar.specs.Words.{IsMeant, MaybeCommaList}
 use Rattle.kt_grammar.specs.Declarations.{IsTypeParameter, IsTypeParameters, IsTypedParameter, IsConstructorParameter, IsConstructor, kind_of}
 use Rattle.kt_grammar.specs.Readers.{meant, maybe_commas}
 use Rattle.kt_grammar.specs.DeclarationParser.{type_parameter, type_parameters, typed_parameter, constructor_parameter, constructor_parameters}
 use Rattle.kt_grammar.proofs.Apart.{signs_apart}
-use Rattle.kt_grammar.proofs.Forms.{comma_list_correct, comma_list_phrase}
+use Rattle.kt_grammar_parsers.proofs.Forms.{comma_list_correct, comma_list_phrase}
 use Rattle.kt_grammar.proofs.TypesRead.{a_sign, a_name}
 use Rattle.kt_grammar.proofs.Sequences.{Part, Anything, part_of, phrase_of, then, made, where_part, any_part}
 use Rattle.kt_grammar.proofs.Begins.{of_kind, Begins, seq_begins_with, first_yes}

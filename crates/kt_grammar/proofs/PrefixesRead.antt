@@ -11,8 +11,8 @@ use Rattle.kt_tree.specs.Tokens.{same_sign, is_sign}
 use Rattle.kt_tree.specs.Bodies as e
 use Rattle.kt_tree.specs.Bodies.{ExpressionTree}
 use Rattle.kt_tree.specs.Levels.{levels}
-use Rattle.kt_grammar.specs.Parsers.{Parser, first, some_levels, ◌>>=◌, pure, attempt, attempt_if}
-use Rattle.kt_grammar.specs.Phrases.{IsNothing, Seq, Either, NotReads}
+use Rattle.kt_grammar_parsers.specs.Parsers.{Parser, first, some_levels, ◌>>=◌, pure, attempt, attempt_if}
+use Rattle.kt_grammar_parsers.specs.Phrases.{IsNothing, Seq, Either, NotReads}
 use Rattle.kt_grammar.specs.Terminals.{prefix_of, means, nothing}
 use Rattle.kt_grammar.specs.Words.{IsMeant}
 use Rattle.kt_grammar.specs.Levels.{Phrases}
@@ -20,7 +20,7 @@ use Rattle.kt_grammar.specs.declared.context.Context.{Context}
 use Rattle.kt_grammar.specs.Expressions.{IsPostfix, IsPrefixed}
 use Rattle.kt_grammar.specs.Readers.{meant}
 use Rattle.kt_grammar.specs.ExpressionParser.{Parsers, postfix, prefix_parser}
-use Rattle.kt_grammar.proofs.Steps.{truth}
+use Rattle.kt_grammar_parsers.proofs.Steps.{truth}
 use Rattle.kt_grammar.proofs.TypesRead.{a_sign}
 use Rattle.kt_grammar.proofs.Closing.{kind_sign}
 use Rattle.kt_grammar.proofs.Sequences.{Part, Anything, Closes, then, made}

@@ -12,8 +12,8 @@ use Rattle.kt_tree.specs.declared.bodies.Literal.TheVariants as literal
 use Rattle.kt_tree.specs.Tokens.{same_sign, same_keyword, kind_is_sign, kind_is_keyword, kind_is_identifier, is_identifier}
 use Rattle.kt_tree.specs.Bodies as e
 use Rattle.kt_tree.specs.Bodies.{ExpressionTree}
-use Rattle.kt_grammar.specs.Parsers.{first, some_levels, ◌>>=◌, pure, on}
-use Rattle.kt_grammar.specs.Phrases.{IsNothing, IsToken, Seq, Either, NotReads, ends}
+use Rattle.kt_grammar_parsers.specs.Parsers.{first, some_levels, ◌>>=◌, pure, on}
+use Rattle.kt_grammar_parsers.specs.Phrases.{IsNothing, IsToken, Seq, Either, NotReads, ends}
 use Rattle.kt_grammar.specs.Terminals.{begins_expression, kind_is_open_quote, keyword_literal, kind_literal, literal_of, name_of}
 use Rattle.kt_grammar.specs.Words.{IsMeant}
 use Rattle.kt_grammar.specs.Readers.{meant}
@@ -21,7 +21,7 @@ use Rattle.kt_grammar.specs.Levels.{Phrases}
 use Rattle.kt_grammar.specs.declared.context.Context.{Context}
 use Rattle.kt_grammar.specs.Expressions.{IsPrimary, IsPostfix}
 use Rattle.kt_grammar.specs.ExpressionParser.{Parsers, primary, postfix}
-use Rattle.kt_grammar.proofs.Steps.{truth}
+use Rattle.kt_grammar_parsers.proofs.Steps.{truth}
 use Rattle.kt_grammar.proofs.TypesRead.{a_sign, a_name}
 use Rattle.kt_grammar.proofs.Sequences.{Part, Anything, Closes, then, made, any_part}
 use Rattle.kt_grammar.proofs.Meanings.{closes_halts, halts_no, meant_part}

@@ -5,11 +5,11 @@ use Rattle.kt_tree.specs.declared.tokens.Token.{Token}
 use Rattle.kt_tree.specs.declared.tokens.TokenKind.{TokenKind}
 use Rattle.kt_tree.specs.declared.tokens.TokenKind.TheVariants as kind
 use Rattle.kt_tree.specs.Tokens.{is_new_line, is_identifier}
-use Rattle.kt_grammar.specs.Parsers.{Parser, first, ◌>>=◌}
-use Rattle.kt_grammar.specs.Phrases.{Seq}
-use Rattle.kt_grammar.proofs.Correct.{Correct}
-use Rattle.kt_grammar.proofs.Steps.{Any}
-use Rattle.kt_grammar.proofs.On.{Phrase}
+use Rattle.kt_grammar_parsers.specs.Parsers.{Parser, first, ◌>>=◌}
+use Rattle.kt_grammar_parsers.specs.Phrases.{Seq}
+use Rattle.kt_grammar_parsers.proofs.Correct.{Correct}
+use Rattle.kt_grammar_parsers.proofs.Steps.{Any}
+use Rattle.kt_grammar_parsers.proofs.On.{Phrase}
 use Rattle.kt_grammar.proofs.Sequences.{Part, Anything, Closes, then, part_of}
 use Rattle.kt_grammar.proofs.Begins.{Begins, begins_no, seq_begins_with}
 use Rattle.kt_grammar.proofs.Below.{Halts, IsRead, IsExpressionRead}

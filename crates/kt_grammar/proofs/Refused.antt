@@ -1,13 +1,13 @@
 -- A part that is tried and without which the next token is refused.
 use Rattle.std.proofs.Common.{◌≡◌, ◌≤◌, List, [], ◌++◌, length, Err, sym, ap, ◌∙◌, arith, inl, inr}
 use Rattle.kt_tree.specs.declared.tokens.Token.{Token}
-use Rattle.kt_grammar.specs.Parsers.{Cursor, Outcome, Parser, further, and_then, ◌>>=◌, tried, attempt}
-use Rattle.kt_grammar.specs.Phrases.{Seq, FirstOf}
+use Rattle.kt_grammar_parsers.specs.Parsers.{Cursor, Outcome, Parser, further, and_then, ◌>>=◌, tried, attempt}
+use Rattle.kt_grammar_parsers.specs.Phrases.{Seq, FirstOf}
 use Rattle.kt_grammar.specs.Words.{Empty}
 use Rattle.kt_grammar.specs.Readers.{refuse}
-use Rattle.kt_grammar.proofs.Ends.{Tied, further_cases, same_end, tied_move}
-use Rattle.kt_grammar.proofs.Correct.{Refusal, below, correct, same_parser, same_language, which}
-use Rattle.kt_grammar.proofs.Steps.{Any}
+use Rattle.kt_grammar_parsers.proofs.Ends.{Tied, further_cases, same_end, tied_move}
+use Rattle.kt_grammar_parsers.proofs.Correct.{Refusal, below, correct, same_parser, same_language, which}
+use Rattle.kt_grammar_parsers.proofs.Steps.{Any}
 use Rattle.kt_grammar.proofs.Sequences.{Part, then}
 
 module _ {A B : Type 0} {p : Parser Token A} {go : A → Parser Token B} {K : A → List Token → List Token → Type 0} {L : A → B → List Token → List Token → Type 0} {D F' : List Token → Type 0} {N : B → List Token → Type 0}

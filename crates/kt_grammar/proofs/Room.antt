@@ -4,7 +4,7 @@ use Rattle.std.proofs.lemmas.Bool.Decides.{nat_tests}
 use Rattle.kt_tree.specs.Bodies as e
 use Rattle.kt_tree.specs.Bodies.{ExpressionTree}
 use Rattle.kt_tree.specs.Levels.{levels}
-use Rattle.kt_grammar.specs.Parsers.{some_levels}
+use Rattle.kt_grammar_parsers.specs.Parsers.{some_levels}
 
 pub some_level : (a : ExpressionTree) → 0 < levels a
 some_level (e.literal at l) = omega arith

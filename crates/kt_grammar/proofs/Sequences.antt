@@ -2,18 +2,18 @@
 use Rattle.std.proofs.Common.{◌≡◌, ◌<◌, Bool, true, false, List, [], ◌∷◌, ◌++◌, length, refl, sym, ap, subst, ◌∙◌, append_assoc, arith, inl, inr, ◌⊎◌, length-append}
 use Rattle.std.proofs.lemmas.List.{append-nil}
 use Rattle.kt_tree.specs.declared.tokens.Token.{Token}
-use Rattle.kt_grammar.specs.Parsers.{Parser, first, ◌>>=◌, ◌>>◌, pure, token, skip, on, attempt, attempt_if, repeat}
-use Rattle.kt_grammar.specs.Phrases.{IsNothing, IsToken, AllPass, IsSkipped, Seq, Either, NotReads, FirstOf, If, WhereRoom, Loop, ends}
-use Rattle.kt_grammar.proofs.Correct.{Below, Correct, Completion, below, correct, same_language}
-use Rattle.kt_grammar.proofs.Bind.{bind_correct}
-use Rattle.kt_grammar.proofs.Steps.{Any, truth, pure_correct, token_correct}
-use Rattle.kt_grammar.proofs.Skip.{skip_correct}
-use Rattle.kt_grammar.proofs.On.{Phrase, on_correct}
-use Rattle.kt_grammar.proofs.Attempt.{attempt_correct}
-use Rattle.kt_grammar.proofs.Repeat.{repeat_correct}
-use Rattle.kt_grammar.proofs.Forms.{attempt_if_correct}
+use Rattle.kt_grammar_parsers.specs.Parsers.{Parser, first, ◌>>=◌, ◌>>◌, pure, token, skip, on, attempt, attempt_if, repeat}
+use Rattle.kt_grammar_parsers.specs.Phrases.{IsNothing, IsToken, AllPass, IsSkipped, Seq, Either, NotReads, FirstOf, If, WhereRoom, Loop, ends}
+use Rattle.kt_grammar_parsers.proofs.Correct.{Below, Correct, Completion, below, correct, same_language}
+use Rattle.kt_grammar_parsers.proofs.Bind.{bind_correct}
+use Rattle.kt_grammar_parsers.proofs.Steps.{Any, truth, pure_correct, token_correct}
+use Rattle.kt_grammar_parsers.proofs.Skip.{skip_correct}
+use Rattle.kt_grammar_parsers.proofs.On.{Phrase, on_correct}
+use Rattle.kt_grammar_parsers.proofs.Attempt.{attempt_correct}
+use Rattle.kt_grammar_parsers.proofs.Repeat.{repeat_correct}
+use Rattle.kt_grammar_parsers.proofs.Forms.{attempt_if_correct}
 use Rattle.kt_grammar.proofs.Closing.{goes_on}
-use Rattle.kt_grammar.proofs.Optional.{past_correct, seq_begins}
+use Rattle.kt_grammar_parsers.proofs.Optional.{past_correct, seq_begins}
 
 -- a parser that reads a language; one phrase of it, and what the tokens before that phrase may ask of it
 pub record Part {T A : Type 0} (p : Parser T A) (L : A → List T → List T → Type 0) (F : List T → Type 0) (N : A → List T → Type 0) : Type 0 where

@@ -15,8 +15,8 @@ use Rattle.kt_tree.specs.Bodies as e
 use Rattle.kt_tree.specs.Bodies.{ExpressionTree, StatementTree, maybe_expression}
 use Rattle.kt_tree.specs.Types.{TypeTree}
 use Rattle.kt_tree.specs.Levels.{levels}
-use Rattle.kt_grammar.specs.Parsers.{Parser, first, some_levels, ◌>>=◌, ◌>>◌, pure, on, attempt_if}
-use Rattle.kt_grammar.specs.Phrases.{IsNothing, IsToken, Seq, Either, FirstOf, WhereRoom}
+use Rattle.kt_grammar_parsers.specs.Parsers.{Parser, first, some_levels, ◌>>=◌, ◌>>◌, pure, on, attempt_if}
+use Rattle.kt_grammar_parsers.specs.Phrases.{IsNothing, IsToken, Seq, Either, FirstOf, WhereRoom}
 use Rattle.kt_grammar.specs.Words.{IsMeant, IsPast, Maybe}
 use Rattle.kt_grammar.specs.Terminals.{assignment_of, step_of, variable_of, name_of}
 use Rattle.kt_grammar.specs.Types.{IsType}
@@ -27,8 +27,8 @@ use Rattle.kt_grammar.specs.Statements.{IsInitializer, IsLocal, IsSimple}
 use Rattle.kt_grammar.specs.Readers.{meant, lines, on_if, maybe, type_parser}
 use Rattle.kt_grammar.specs.ExpressionParser.{Parsers, disjunction_parser}
 use Rattle.kt_grammar.specs.StatementParser.{initializer, local_rest, assigns, simple}
-use Rattle.kt_grammar.proofs.Correct.{Correct, below, correct}
-use Rattle.kt_grammar.proofs.Steps.{truth}
+use Rattle.kt_grammar_parsers.proofs.Correct.{Correct, below, correct}
+use Rattle.kt_grammar_parsers.proofs.Steps.{truth}
 use Rattle.kt_grammar.proofs.TypesRead.{a_sign, a_name}
 use Rattle.kt_grammar.proofs.Closing.{closed_no}
 use Rattle.kt_grammar.proofs.Sequences.{Part, Anything, Closes, then, any_part, made, one, room_part}

@@ -12,16 +12,16 @@ use Rattle.kt_tree.specs.Tokens.{is_sign}
 use Rattle.kt_tree.specs.Bodies as e
 use Rattle.kt_tree.specs.Bodies.{ExpressionTree, PartTree, parts_of}
 use Rattle.kt_tree.specs.Levels.{parts_levels}
-use Rattle.kt_grammar.specs.Parsers.{Cursor, Parser, further, some_levels, repeat}
-use Rattle.kt_grammar.specs.Phrases.{IsNothing, IsToken, Seq, Either, If, Loop, ends}
+use Rattle.kt_grammar_parsers.specs.Parsers.{Cursor, Parser, further, some_levels, repeat}
+use Rattle.kt_grammar_parsers.specs.Phrases.{IsNothing, IsToken, Seq, Either, If, Loop, ends}
 use Rattle.kt_grammar.specs.Terminals.{is_name_part, is_this_part, is_open_template, is_close_quote, kind_is_name_part, kind_is_this_part, kind_is_open_template, kind_is_close_quote, name_of, text_of}
 use Rattle.kt_grammar.specs.Words.{Empty, IsMeant, IsPast}
 use Rattle.kt_grammar.specs.Levels.{Phrases}
 use Rattle.kt_grammar.specs.declared.context.Context.{Context}
 use Rattle.kt_grammar.specs.Expressions.{IsPart, IsNextPart, PartTurn}
 use Rattle.kt_grammar.specs.ExpressionParser.{Parsers, part_of, part_if, next_part, part_turn}
-use Rattle.kt_grammar.proofs.Steps.{Any, truth}
-use Rattle.kt_grammar.proofs.Repeat.{repeat_correct}
+use Rattle.kt_grammar_parsers.proofs.Steps.{Any, truth}
+use Rattle.kt_grammar_parsers.proofs.Repeat.{repeat_correct}
 use Rattle.kt_grammar.proofs.Sequences.{Part, Anything, Closes, then, made}
 use Rattle.kt_grammar.proofs.Meanings.{closes_halts, token_of, meant_part}
 use Rattle.kt_grammar.proofs.Choices.{past_then, same_part}

@@ -8,8 +8,8 @@ use Rattle.kt_tree.specs.Tokens.{same_sign, is_sign, is_identifier, is_new_line,
 use Rattle.kt_tree.specs.Types.{TypeTree}
 use Rattle.kt_tree.specs.Bodies as e
 use Rattle.kt_tree.specs.Bodies.{ExpressionTree}
-use Rattle.kt_grammar.specs.Parsers.{first, some_levels, ◌>>◌, skip, repeat}
-use Rattle.kt_grammar.specs.Phrases.{IsNothing, IsToken, IsAhead, Seq, NotReads, Loop, WhereNext, WhereRoom}
+use Rattle.kt_grammar_parsers.specs.Parsers.{first, some_levels, ◌>>◌, skip, repeat}
+use Rattle.kt_grammar_parsers.specs.Phrases.{IsNothing, IsToken, IsAhead, Seq, NotReads, Loop, WhereNext, WhereRoom}
 use Rattle.kt_grammar.specs.Terminals.{opens_arguments, means, nothing, member_of, name_of}
 use Rattle.kt_grammar.specs.Words.{CommaList, MaybeCommaList, IsMeant, IsPast}
 use Rattle.kt_grammar.specs.Levels.{Phrases, place, ends_in_name}
@@ -19,8 +19,8 @@ use Rattle.kt_grammar.specs.Readers.{commas, maybe_commas, meant, type_parser}
 use Rattle.kt_grammar.specs.Expressions.{IsArguments, IsCall, IsCallOf, IsElement, IsMember, IsTypeArgumentsOfCall, SuffixTurn}
 use Rattle.kt_grammar.specs.Expressions as x
 use Rattle.kt_grammar.specs.ExpressionParser.{Parsers, arguments_rest, call_parser, call_of, element, member, type_arguments_of_call, suffix_turn}
-use Rattle.kt_grammar.proofs.Steps.{Any}
-use Rattle.kt_grammar.proofs.Forms.{comma_list_correct, comma_list_phrase}
+use Rattle.kt_grammar_parsers.proofs.Steps.{Any}
+use Rattle.kt_grammar_parsers.proofs.Forms.{comma_list_correct, comma_list_phrase}
 use Rattle.kt_grammar.proofs.TypesRead.{TypeEnds, a_sign, greater_ends, types_correct}
 use Rattle.kt_grammar.proofs.TypeLaws.{some_type}
 use Rattle.kt_grammar.proofs.Sequences.{Part, Anything, Closes, then, made, part_of, loop_part}
@@ -29,7 +29,7 @@ use Rattle.kt_grammar.proofs.Distinct.{no_sign, means_none}
 use Rattle.kt_grammar.proofs.Choices.{past_then, room_goes, room_stops}
 use Rattle.kt_grammar.proofs.Optionals.{on_room_before}
 use Rattle.kt_grammar.proofs.Room.{room_left}
-use Rattle.kt_grammar.proofs.Optional.{not_reads, token_begins}
+use Rattle.kt_grammar_parsers.proofs.Optional.{not_reads, token_begins}
 use Rattle.kt_grammar.proofs.Begins.{kind_begins_expression, of_kind, Begins, begins_eats, begins_not_read, first_yes, seq_begins_with, either_begins_with}
 use Rattle.kt_grammar.proofs.Below.{ReadsBelow, Halts}
 use Rattle.kt_grammar.proofs.Left.{read_part, not_ahead, next_left, commas_part, on_left}

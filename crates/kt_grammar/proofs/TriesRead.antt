@@ -10,16 +10,16 @@ use Rattle.kt_tree.specs.declared.tokens.SoftKeyword.TheVariants as soft
 use Rattle.kt_tree.specs.Tokens.{kind_is_sign, kind_is_soft_keyword, is_soft_keyword, is_new_line}
 use Rattle.kt_tree.specs.Bodies as e
 use Rattle.kt_tree.specs.Bodies.{ExpressionTree, BlockTree, CatchTree, catches_of}
-use Rattle.kt_grammar.specs.Parsers.{first, some_levels, ◌>>=◌, pure, attempt, repeat}
-use Rattle.kt_grammar.specs.Phrases.{IsNothing, IsToken, Seq, NotReads, FirstOf, WhereRoom, Loop, ends}
+use Rattle.kt_grammar_parsers.specs.Parsers.{first, some_levels, ◌>>=◌, pure, attempt, repeat}
+use Rattle.kt_grammar_parsers.specs.Phrases.{IsNothing, IsToken, Seq, NotReads, FirstOf, WhereRoom, Loop, ends}
 use Rattle.kt_grammar.specs.Terminals.{name_of}
 use Rattle.kt_grammar.specs.Words.{IsPast}
 use Rattle.kt_grammar.specs.Levels.{Phrases}
 use Rattle.kt_grammar.specs.declared.context.Context.{Context}
 use Rattle.kt_grammar.specs.Expressions.{IsBlock, IsBlockRest, IsCatchHead, IsFinallyHead, CatchTurn, IsNoFinally}
 use Rattle.kt_grammar.specs.ExpressionParser.{Parsers, block_rest, catch_head, finally_head, catch_turn, no_finally, try_rest}
-use Rattle.kt_grammar.proofs.Steps.{Any}
-use Rattle.kt_grammar.proofs.Repeat.{repeat_correct}
+use Rattle.kt_grammar_parsers.proofs.Steps.{Any}
+use Rattle.kt_grammar_parsers.proofs.Repeat.{repeat_correct}
 use Rattle.kt_grammar.proofs.Sequences.{Part, Anything, Closes, then, made, one, any_part, past, where_part, room_part}
 use Rattle.kt_grammar.proofs.Choices.{past_then, room_stops}
 use Rattle.kt_grammar.proofs.Meanings.{closes_halts, halts_no}

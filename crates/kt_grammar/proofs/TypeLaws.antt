@@ -1,13 +1,13 @@
 -- The laws on types.
 use Rattle.std.proofs.Common.{ℕ, suc, [], refl}
 use Rattle.kt_tree.specs.Types.{TypeTree}
-use Rattle.kt_grammar.specs.Parsers.{cursor, some_levels}
+use Rattle.kt_grammar_parsers.specs.Parsers.{cursor, some_levels}
 use Rattle.kt_grammar.specs.Types.{IsType}
 use Rattle.kt_grammar.specs.Readers.{type_parser}
 use Rattle.kt_grammar.specs.Laws.{OneType, TypeIsRead, TypeIsRefused, TypeReadsTypes}
-use Rattle.kt_grammar.proofs.On.{Phrase}
-use Rattle.kt_grammar.proofs.Steps.{Any}
-use Rattle.kt_grammar.proofs.Whole.{one_value, read_is_sentence, sentence_is_read, refused_at_first}
+use Rattle.kt_grammar_parsers.proofs.On.{Phrase}
+use Rattle.kt_grammar_parsers.proofs.Steps.{Any}
+use Rattle.kt_grammar_parsers.proofs.Whole.{one_value, read_is_sentence, sentence_is_read, refused_at_first}
 use Rattle.kt_grammar.proofs.TypesRead.{TypeEnds, type_phrase, types_correct}
 
 ends_there : (t : TypeTree) → TypeEnds t []

@@ -8,15 +8,15 @@ use Rattle.kt_tree.specs.declared.tokens.Sign.TheVariants as sign
 use Rattle.kt_tree.specs.declared.tokens.SoftKeyword.TheVariants as soft
 use Rattle.kt_tree.specs.Tokens.{same_sign, kind_is_sign, kind_is_identifier, kind_is_soft_keyword, is_sign, is_identifier, is_soft_keyword}
 use Rattle.kt_tree.specs.Types.{TypeTree}
-use Rattle.kt_grammar.specs.Parsers.{first, some_levels}
-use Rattle.kt_grammar.specs.Phrases.{IsToken, IsNothing, IsAhead, Seq, Either, FirstOf, MaybeCommaList}
+use Rattle.kt_grammar_parsers.specs.Parsers.{first, some_levels}
+use Rattle.kt_grammar_parsers.specs.Phrases.{IsToken, IsNothing, IsAhead, Seq, Either, FirstOf, MaybeCommaList}
 use Rattle.kt_grammar.specs.Terminals.{name_of}
 use Rattle.kt_grammar.specs.Types.{IsType, IsTypeOver, IsTypeArguments, IsNamedType, IsMaybeNullable, IsBehindTypes, IsSuspend, IsSuspendType, IsInParentheses}
 use Rattle.kt_grammar.specs.Readers.{type_parser}
-use Rattle.kt_grammar.proofs.Correct.{Correct, below, correct, same_language}
-use Rattle.kt_grammar.proofs.Steps.{Any}
-use Rattle.kt_grammar.proofs.On.{Phrase}
-use Rattle.kt_grammar.proofs.Optional.{seq_begins}
+use Rattle.kt_grammar_parsers.proofs.Correct.{Correct, below, correct, same_language}
+use Rattle.kt_grammar_parsers.proofs.Steps.{Any}
+use Rattle.kt_grammar_parsers.proofs.On.{Phrase}
+use Rattle.kt_grammar_parsers.proofs.Optional.{seq_begins}
 use Rattle.kt_grammar.proofs.TypesRead.{a_name, a_type, name_type, TypeEnds, types_correct, type_phrase}
 use Rattle.kt_grammar.proofs.Closing.{goes_on, closed_ends_type, kind_sign}
 use Rattle.kt_grammar.proofs.Below.{Halts}

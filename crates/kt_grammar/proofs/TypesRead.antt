@@ -7,19 +7,19 @@ use Rattle.kt_tree.specs.declared.tokens.Sign.TheVariants as sign
 use Rattle.kt_tree.specs.declared.tokens.SoftKeyword.TheVariants as soft
 use Rattle.kt_tree.specs.Tokens.{same_sign, is_sign, is_identifier, is_soft_keyword, spelling}
 use Rattle.kt_tree.specs.Types.{TypeTree, named, function, nullable, parenthesized, types_of}
-use Rattle.kt_grammar.specs.Parsers.{some_levels, Parser, first, ◌>>=◌, ◌>>◌, pure, token, on, attempt, ahead}
-use Rattle.kt_grammar.specs.Phrases.{CommaList, MaybeCommaList, IsNothing, IsToken, IsAhead, Seq, Either, FirstOf, NotReads}
+use Rattle.kt_grammar_parsers.specs.Parsers.{some_levels, Parser, first, ◌>>=◌, ◌>>◌, pure, token, on, attempt, ahead}
+use Rattle.kt_grammar_parsers.specs.Phrases.{CommaList, MaybeCommaList, IsNothing, IsToken, IsAhead, Seq, Either, FirstOf, NotReads}
 use Rattle.kt_grammar.specs.Terminals.{name_of}
 use Rattle.kt_grammar.specs.Types.{IsTypeArguments, IsNamedType, IsMaybeNullable, IsResult, IsSuspendType, IsBehindTypes, IsInParentheses, IsSuspend, IsTypeOver, IsType}
 use Rattle.kt_grammar.specs.Readers.{commas, maybe_commas, type_arguments, named_type, maybe_nullable, result_type, suspend_type, behind_types, behind_parenthesis, type_over, type_parser}
-use Rattle.kt_grammar.proofs.Correct.{Correct, below, correct, same_language}
+use Rattle.kt_grammar_parsers.proofs.Correct.{Correct, below, correct, same_language}
 use Rattle.kt_grammar.specs.Words.{Empty}
-use Rattle.kt_grammar.proofs.Bind.{bind_correct}
-use Rattle.kt_grammar.proofs.Steps.{Any, pure_correct, token_correct}
-use Rattle.kt_grammar.proofs.On.{Phrase, on_correct}
-use Rattle.kt_grammar.proofs.Attempt.{attempt_correct}
-use Rattle.kt_grammar.proofs.Forms.{gives_correct, gives_phrase, ahead_correct, attempt_if_correct, comma_list_correct, comma_list_phrase, maybe_comma_list_correct}
-use Rattle.kt_grammar.proofs.Optional.{not_reads, token_begins, seq_begins, where_token_correct}
+use Rattle.kt_grammar_parsers.proofs.Bind.{bind_correct}
+use Rattle.kt_grammar_parsers.proofs.Steps.{Any, pure_correct, token_correct}
+use Rattle.kt_grammar_parsers.proofs.On.{Phrase, on_correct}
+use Rattle.kt_grammar_parsers.proofs.Attempt.{attempt_correct}
+use Rattle.kt_grammar_parsers.proofs.Forms.{gives_correct, gives_phrase, ahead_correct, attempt_if_correct, comma_list_correct, comma_list_phrase, maybe_comma_list_correct}
+use Rattle.kt_grammar_parsers.proofs.Optional.{not_reads, token_begins, seq_begins, where_token_correct}
 use Rattle.kt_grammar.proofs.Apart.{signs_apart, identifier_no_sign, soft_no_sign}
 
 abbrev pub a_sign : Sign → Token

@@ -1,12 +1,12 @@
 -- A parser that is refused where the next token passes a test.
 use Rattle.std.proofs.Common.{◌≡◌, ◌<◌, Bool, true, false, List, [], ◌∷◌, ◌++◌, length, Ok, Err, refl, sym, ap, subst, ◌∙◌, arith, inl, inr, ◌⊎◌, length-append}
 use Rattle.kt_tree.specs.declared.tokens.Token.{Token}
-use Rattle.kt_grammar.specs.Parsers.{Cursor, Outcome, Parser, cursor, further, first}
+use Rattle.kt_grammar_parsers.specs.Parsers.{Cursor, Outcome, Parser, cursor, further, first}
 use Rattle.kt_grammar.specs.StatementParser.{refused_if, unless}
-use Rattle.kt_grammar.proofs.Ends.{Tied}
-use Rattle.kt_grammar.proofs.Correct.{Begun, Reading, Refusal, Accepted, Correct}
-use Rattle.kt_grammar.proofs.Steps.{Any, truth, refused_at, mark_moves}
-use Rattle.kt_grammar.proofs.On.{Phrase, first_same}
+use Rattle.kt_grammar_parsers.proofs.Ends.{Tied}
+use Rattle.kt_grammar_parsers.proofs.Correct.{Begun, Reading, Refusal, Accepted, Correct}
+use Rattle.kt_grammar_parsers.proofs.Steps.{Any, truth, refused_at, mark_moves}
+use Rattle.kt_grammar_parsers.proofs.On.{Phrase, first_same}
 
 err_is : {A : Type 0} (o : Outcome Token A) (a b : List Token) → o ≡ Err a → o ≡ Err b → a ≡ b
 err_is o a b e f = cc

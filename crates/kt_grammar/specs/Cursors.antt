@@ -1,6 +1,6 @@
 -- What the calls of the cursor do.
 use Rattle.std.specs.Prelude.{◌≡◌, Bool, true, false, ◌∷◌, Option, None, Some}
-use Rattle.kt_grammar.specs.Parsers.{Cursor, cursor, further, first}
+use Rattle.kt_grammar_parsers.specs.Parsers.{Cursor, cursor, further, first}
 
 -- the next token was taken where it passes the test, else examined in vain
 abbrev pub Turned : {T : Type 0} → (T → Bool) → Cursor T → Option T → Cursor T → Type 0

@@ -18,7 +18,7 @@ use Rattle.kt_tree.specs.Tokens.{is_keyword, is_sign, is_soft_keyword, is_identi
 use Rattle.kt_tree.specs.Types.{TypeTree}
 use Rattle.kt_tree.specs.Declarations as d
 use Rattle.kt_tree.specs.Declarations.{TypeParameterTree, TypedParameterTree, FunctionBodyTree, FunctionTree, ConstructorParameterTree, SupertypeTree, PropertyTree, MemberTree, ClassTree, InterfaceTree, ConstantTree, DeclarationTree}
-use Rattle.kt_grammar.specs.Parsers.{Outcome, Parser, cursor, ◌>>=◌, ◌>>◌, pure, token, on, attempt, repeat}
+use Rattle.kt_grammar_parsers.specs.Parsers.{Outcome, Parser, cursor, ◌>>=◌, ◌>>◌, pure, token, on, attempt, repeat}
 use Rattle.kt_grammar.specs.Terminals.{name_of, is_end, is_open_quote, is_close_quote, literal_of, text_of, variable_of}
 use Rattle.kt_grammar.specs.Declarations.{Scope, Modified, first_place, start_of, has_body, may_be_generic, kind_of, arguments_at, outside, most_levels, at_top, in_class, in_interface}
 use Rattle.kt_grammar.specs.Readers.{meant, on_if, lines, expect, maybe, commas, maybe_commas, several_items, separated, named_type, type_parser}

@@ -20,8 +20,8 @@ use Rattle.kt_tree.specs.Types.{TypeTree}
 use Rattle.kt_tree.specs.Bodies.{ExpressionTree}
 use Rattle.kt_tree.specs.Declarations as d
 use Rattle.kt_tree.specs.Declarations.{TypeParameterTree, TypedParameterTree, FunctionBodyTree, FunctionTree, ConstructorParameterTree, SuperArgumentsTree, SupertypeTree, PropertyTree, MemberTree, ClassTree, InterfaceTree, ConstantTree, DeclarationTree}
-use Rattle.kt_grammar.specs.Phrases.{IsToken, Seq, Either, Loop, If, Where}
-use Rattle.kt_grammar.specs.Sentences.{IsSentence, IsRefusedAt, OneValue}
+use Rattle.kt_grammar_parsers.specs.Phrases.{IsToken, Seq, Either, Loop, If, Where}
+use Rattle.kt_grammar_parsers.specs.Sentences.{IsSentence, IsRefusedAt, OneValue}
 use Rattle.kt_grammar.specs.Terminals.{Meaning, means, nothing, name_of, is_end, is_open_quote, is_close_quote, literal_of, text_of, variable_of}
 use Rattle.kt_grammar.specs.Words.{Empty, Gives, IsSign, IsKeyword, IsSoftKeyword, IsIdentifier, IsMeant, IsLines, IsPast, Maybe, CommaList, MaybeCommaList, Several, Items, Directly}
 use Rattle.kt_grammar.specs.Types.{IsType, IsNamedType}

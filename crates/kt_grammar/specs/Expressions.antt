@@ -12,8 +12,8 @@ use Rattle.kt_tree.specs.Types.{TypeTree}
 use Rattle.kt_tree.specs.Bodies as e
 use Rattle.kt_tree.specs.Bodies.{ExpressionTree, PartTree, ParameterTree, StatementTree, BlockTree, EntryTree, ConditionTree, CatchTree, expressions_of, parts_of, entries_of, conditions_of, catches_of, statements_of, maybe_expression}
 use Rattle.kt_tree.specs.Levels.{levels, parts_levels}
-use Rattle.kt_grammar.specs.Parsers.{some_levels}
-use Rattle.kt_grammar.specs.Phrases.{Chain, IsToken, Seq, Either, Loop, If, Where, WhereNext, WhereRoom, IsAhead}
+use Rattle.kt_grammar_parsers.specs.Parsers.{some_levels}
+use Rattle.kt_grammar_parsers.specs.Phrases.{Chain, IsToken, Seq, Either, Loop, If, Where, WhereNext, WhereRoom, IsAhead}
 use Rattle.kt_grammar.specs.Terminals.{begins_expression, is_no_arrow, opens_arguments, name_of, is_open_quote, is_close_quote, is_name_part, is_this_part, is_open_template, literal_of, text_of, disjunction_of, conjunction_of, equality_of, comparison_of, elvis_of, infix_of, additive_of, multiplicative_of, prefix_of, type_check_of, cast_of, member_of}
 use Rattle.kt_grammar.specs.Words.{Empty, Gives, IsSign, IsKeyword, IsSoftKeyword, IsIdentifier, IsMeant, IsLines, IsPast, Maybe, MaybeCommaList, Several, Items, Directly}
 use Rattle.kt_grammar.specs.Types.{IsType, IsTypeArguments}

@@ -3,8 +3,8 @@ use Rattle.std.specs.Prelude.{◌≡◌, ℕ, suc, ◌-◌, ◌≤◌, List, [],
 use Rattle.kt_tree.specs.declared.tokens.Token.{Token}
 use Rattle.kt_tree.specs.Declarations.{DeclarationTree}
 use Rattle.kt_tree.specs.Levels.{file_levels}
-use Rattle.kt_grammar.specs.Parsers.{Parser, cursor}
-use Rattle.kt_grammar.specs.Sentences.{IsSentence, IsRefusedAt, OneValue}
+use Rattle.kt_grammar_parsers.specs.Parsers.{Parser, cursor}
+use Rattle.kt_grammar_parsers.specs.Sentences.{IsSentence, IsRefusedAt, OneValue}
 use Rattle.kt_grammar.specs.Types.{IsType}
 use Rattle.kt_grammar.specs.Readers.{type_parser}
 use Rattle.kt_grammar.specs.declared.context.Context.{Context}

@@ -1,8 +1,8 @@
 //! A cursor over tokens, which keeps the furthest token that was examined in vain.
 
 ghost use Rattle.kt_grammar.specs.Cursors.{Turned};
-ghost use Rattle.kt_grammar.specs.Parsers as spec;
-ghost use Rattle.kt_grammar.specs.Parsers.{behind, cursor, further};
+ghost use Rattle.kt_grammar_parsers.specs.Parsers as spec;
+ghost use Rattle.kt_grammar_parsers.specs.Parsers.{behind, cursor, further};
 ghost use Rattle.kt_grammar.specs.Terminals.{is_of, is_separator};
 ghost use Rattle.kt_tree.specs.Tokens.{is_identifier, is_keyword, is_new_line, is_sign, is_soft_keyword};
 ghost use Rattle.std.specs.Prelude.{◌≡◌, ◌+◌, ◌<◌, ◌∷◌, length, Ok};
@@ -21,7 +21,7 @@ pub struct Tokens<'a> {
 }
 
 impl<'a> Model for Tokens<'a> {
-    ghost use Rattle.kt_grammar.specs.Parsers.{Cursor};
+    ghost use Rattle.kt_grammar_parsers.specs.Parsers.{Cursor};
     ghost use Rattle.kt_tree.specs.declared.tokens.Token.{Token};
 
     ghost Value = { Cursor Token };
@@ -29,7 +29,7 @@ impl<'a> Model for Tokens<'a> {
     ghost view = { λ t. record { rest = t.rest.now; far = t.far.now } };
 }
 
-#[tactic(auto, unfolding(crate::specs::Parsers::further))]
+#[tactic(auto, unfolding(kt_grammar_parsers::specs::Parsers::further))]
 fn furthest<'t>(a: &'t [Token], b: &'t [Token]) -> &'t [Token]
     ensures { result.now ≡ further a.now b.now }
 {
@@ -37,7 +37,7 @@ fn furthest<'t>(a: &'t [Token], b: &'t [Token]) -> &'t [Token]
 }
 
 /// The tokens behind the line ends that come first.
-#[tactic(auto, using(crate::proofs::Behind::behind_more, crate::proofs::Behind::behind_done, crate::proofs::Behind::tail_shorter))]
+#[tactic(auto, using(kt_grammar_parsers::proofs::Behind::behind_more, kt_grammar_parsers::proofs::Behind::behind_done, kt_grammar_parsers::proofs::Behind::tail_shorter))]
 fn behind_lines<'t>(tokens: &'t [Token]) -> &'t [Token]
     ensures { result.now ≡ behind is_new_line tokens.now }
 {
@@ -58,7 +58,7 @@ fn next_is_line(tokens: &[Token]) -> bool
 }
 
 /// The tokens behind the separators that come first.
-#[tactic(auto, using(crate::proofs::Behind::behind_more, crate::proofs::Behind::behind_done, crate::proofs::Behind::tail_shorter))]
+#[tactic(auto, using(kt_grammar_parsers::proofs::Behind::behind_more, kt_grammar_parsers::proofs::Behind::behind_done, kt_grammar_parsers::proofs::Behind::tail_shorter))]
 fn behind_separators<'t>(tokens: &'t [Token]) -> &'t [Token]
     ensures { result.now ≡ behind is_separator tokens.now }
 {
@@ -136,7 +136,7 @@ impl<'a> Tokens<'a> {
     }
 
     /// Skips the line ends that come next.
-    #[tactic(auto, unfolding(crate::specs::Parsers::skip))]
+    #[tactic(auto, unfolding(kt_grammar_parsers::specs::Parsers::skip))]
     pub fn skip_lines(&mut self)
         ensures { spec.skip is_new_line self.old ≡ Ok (tt, self.new) }
     {
@@ -145,7 +145,7 @@ impl<'a> Tokens<'a> {
     }
 
     /// Skips the separators that come next.
-    #[tactic(auto, unfolding(crate::specs::Parsers::skip))]
+    #[tactic(auto, unfolding(kt_grammar_parsers::specs::Parsers::skip))]
     pub fn skip_separators(&mut self)
         ensures { spec.skip is_separator self.old ≡ Ok (tt, self.new) }
     {
@@ -169,7 +169,7 @@ impl<'a> Tokens<'a> {
     }
 
     /// Takes the next token where it is this sign.
-    #[tactic(auto, using(crate::proofs::Behind::first_there, crate::proofs::Behind::first_passes))]
+    #[tactic(auto, using(kt_grammar_parsers::proofs::Behind::first_there, kt_grammar_parsers::proofs::Behind::first_passes))]
     pub fn take_sign(&mut self, sign: Sign) -> Option<&'a Token>
         ensures { Turned (is_sign sign) self.old (option_copied result) self.new }
     {
@@ -182,7 +182,7 @@ impl<'a> Tokens<'a> {
     }
 
     /// Takes the next token where it is this keyword.
-    #[tactic(auto, using(crate::proofs::Behind::first_there, crate::proofs::Behind::first_passes))]
+    #[tactic(auto, using(kt_grammar_parsers::proofs::Behind::first_there, kt_grammar_parsers::proofs::Behind::first_passes))]
     pub fn take_keyword(&mut self, keyword: Keyword) -> Option<&'a Token>
         ensures { Turned (is_keyword keyword) self.old (option_copied result) self.new }
     {
@@ -195,7 +195,7 @@ impl<'a> Tokens<'a> {
     }
 
     /// Takes the next token where it is spelled as this soft keyword.
-    #[tactic(auto, using(crate::proofs::Behind::first_there, crate::proofs::Behind::first_passes))]
+    #[tactic(auto, using(kt_grammar_parsers::proofs::Behind::first_there, kt_grammar_parsers::proofs::Behind::first_passes))]
     pub fn take_soft_keyword(&mut self, word: SoftKeyword) -> Option<&'a Token>
         ensures { Turned (is_soft_keyword word) self.old (option_copied result) self.new }
     {
@@ -208,7 +208,7 @@ impl<'a> Tokens<'a> {
     }
 
     /// Takes the next token where it is of this class.
-    #[tactic(auto, using(crate::proofs::Behind::first_there, crate::proofs::Behind::first_passes))]
+    #[tactic(auto, using(kt_grammar_parsers::proofs::Behind::first_there, kt_grammar_parsers::proofs::Behind::first_passes))]
     pub fn take_class(&mut self, class: TokenClass) -> Option<&'a Token>
         ensures { Turned (is_of class) self.old (option_copied result) self.new }
     {
@@ -221,7 +221,7 @@ impl<'a> Tokens<'a> {
     }
 
     /// Takes the next token where it is an identifier.
-    #[tactic(auto, using(crate::proofs::Behind::first_there, crate::proofs::Behind::first_passes))]
+    #[tactic(auto, using(kt_grammar_parsers::proofs::Behind::first_there, kt_grammar_parsers::proofs::Behind::first_passes))]
     pub fn take_identifier(&mut self) -> Option<&'a Token>
         ensures { Turned is_identifier self.old (option_copied result) self.new }
     {

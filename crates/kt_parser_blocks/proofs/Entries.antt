@@ -8,7 +8,7 @@ use Rattle.kt_tree.specs.Tokens.{is_new_line, is_sign}
 use Rattle.kt_tree.specs.Bodies as e
 use Rattle.kt_tree.specs.Bodies.{ExpressionTree, EntryTree, expression_tree}
 use Rattle.kt_grammar.specs.declared.context.Context.{Context}
-use Rattle.kt_grammar.specs.Parsers.{Cursor, Parser, further, skip, some_levels, pure, ◌>>=◌}
+use Rattle.kt_grammar_parsers.specs.Parsers.{Cursor, Parser, further, skip, some_levels, pure, ◌>>=◌}
 use Rattle.kt_grammar.specs.Readers.{expect, separated}
 use Rattle.kt_grammar.specs.ExpressionParser.{Parsers}
 use Rattle.kt_grammar.specs.StatementParser as s

@@ -2,7 +2,7 @@
 use Rattle.std.proofs.Common.{◌≡◌, Bool, Option, Some, None, Ok, refl}
 use Rattle.kt_tree.specs.declared.tokens.Token.{Token}
 use Rattle.kt_tree.specs.Tokens.{is_new_line}
-use Rattle.kt_grammar.specs.Parsers.{Cursor, Parser, ◌>>◌, on, skip}
+use Rattle.kt_grammar_parsers.specs.Parsers.{Cursor, Parser, ◌>>◌, on, skip}
 use Rattle.kt_grammar.specs.Readers.{lines}
 use Rattle.kt_grammar.specs.Cursors.{Turned}
 use Rattle.kt_grammar.proofs.Turns.{on_taken, on_missed}

@@ -11,7 +11,7 @@ use Rattle.kt_tree.specs.Bodies.{ExpressionTree, ParameterTree, BodyTree, BlockT
 use Rattle.kt_tree.specs.Levels.{levels}
 use Rattle.kt_grammar.specs.declared.context.Context.{Context}
 use Rattle.kt_grammar.specs.Declarations.{outside}
-use Rattle.kt_grammar.specs.Parsers.{Parser, some_levels, ◌>>=◌, ◌>>◌, pure, token, on, ahead, attempt, attempt_if, repeat}
+use Rattle.kt_grammar_parsers.specs.Parsers.{Parser, some_levels, ◌>>=◌, ◌>>◌, pure, token, on, ahead, attempt, attempt_if, repeat}
 use Rattle.kt_grammar.specs.Terminals.{name_of, is_no_arrow}
 use Rattle.kt_grammar.specs.Readers.{refuse, lines, expect, separated, type_parser}
 use Rattle.kt_grammar.specs.ExpressionParser as p

@@ -8,7 +8,7 @@ ghost use Rattle.kt_grammar.specs.StatementParser.{parsers};
 ghost use Rattle.kt_parser_steps.specs.Steps.{ReadsAs};
 ghost use Rattle.kt_tree.specs.Bodies.{expression_tree, statement_tree};
 ghost use Rattle.kt_parser_blocks.specs.Rules.{expression, has_room};
-ghost use Rattle.kt_grammar.specs.Parsers.{some_levels};
+ghost use Rattle.kt_grammar_parsers.specs.Parsers.{some_levels};
 ghost use Rattle.kt_tree.specs.Levels.{levels};
 ghost use Rattle.std.specs.Prelude.{◌≡◌, ◌+◌, ◌<◌};
 

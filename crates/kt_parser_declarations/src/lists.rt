@@ -2,7 +2,7 @@
 
 ghost use Rattle.kt_parser_declarations.specs.Rests as rests;
 ghost use Rattle.kt_grammar.specs.DeclarationParser as parser;
-ghost use Rattle.kt_grammar.specs.Parsers.{Parser};
+ghost use Rattle.kt_grammar_parsers.specs.Parsers.{Parser};
 ghost use Rattle.kt_grammar.specs.Terminals.{is_of};
 ghost use Rattle.kt_parser_steps.specs.Steps.{EachReads, Finds, ReadsAs};
 ghost use Rattle.kt_tree.specs.declared.tokens.Token.{Token};

@@ -4,7 +4,7 @@ use Rattle.kt_tree.specs.declared.tokens.Token.{Token}
 use Rattle.kt_tree.specs.declared.bodies.Expression.{Expression}
 use Rattle.kt_tree.specs.Bodies.{ExpressionTree, expression_tree}
 use Rattle.kt_grammar.specs.declared.context.Context.{Context}
-use Rattle.kt_grammar.specs.Parsers.{Cursor, Outcome}
+use Rattle.kt_grammar_parsers.specs.Parsers.{Cursor, Outcome}
 use Rattle.kt_grammar.specs.Readers.{lines}
 use Rattle.kt_grammar.specs.StatementParser.{parsers}
 use Rattle.kt_parser_steps.specs.Operators.{operator_of}

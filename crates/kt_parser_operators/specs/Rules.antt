@@ -11,7 +11,7 @@ use Rattle.kt_tree.specs.Bodies as e
 use Rattle.kt_tree.specs.Bodies.{ExpressionTree}
 use Rattle.kt_grammar.specs.declared.context.Context.{Context}
 use Rattle.kt_grammar.specs.Declarations.{outside}
-use Rattle.kt_grammar.specs.Parsers.{Parser, ◌>>=◌, ◌>>◌, pure, token, ahead, attempt_if, where_next}
+use Rattle.kt_grammar_parsers.specs.Parsers.{Parser, ◌>>=◌, ◌>>◌, pure, token, ahead, attempt_if, where_next}
 use Rattle.kt_grammar.specs.Terminals.{name_of, opens_arguments, type_check_of, cast_of}
 use Rattle.kt_grammar.specs.Levels.{place}
 use Rattle.kt_grammar.specs.Readers.{meant, on_if, lines, maybe_commas, type_parser}

@@ -4,7 +4,7 @@ ghost use Rattle.kt_parser_blocks.specs.Below.{AreRead};
 ghost use Rattle.kt_parser_steps.specs.Steps.{ReadsAs};
 ghost use Rattle.kt_tree.specs.Bodies.{expression_tree};
 ghost use Rattle.kt_parser_operators.specs.Rules as rules;
-ghost use Rattle.kt_grammar.specs.Parsers.{repeat};
+ghost use Rattle.kt_grammar_parsers.specs.Parsers.{repeat};
 ghost use Rattle.kt_parser_steps.specs.Steps.{turn_tree};
 ghost use Rattle.std.specs.Prelude.{◌≡◌};
 

@@ -9,7 +9,7 @@ use Rattle.kt_tree.specs.Tokens.{is_keyword, is_sign, is_identifier}
 use Rattle.kt_tree.specs.Bodies as e
 use Rattle.kt_tree.specs.Bodies.{ExpressionTree, PartTree}
 use Rattle.kt_grammar.specs.declared.context.Context.{Context}
-use Rattle.kt_grammar.specs.Parsers.{Parser, ◌>>=◌, ◌>>◌, pure, on, where_next, repeat}
+use Rattle.kt_grammar_parsers.specs.Parsers.{Parser, ◌>>=◌, ◌>>◌, pure, on, where_next, repeat}
 use Rattle.kt_grammar.specs.Terminals.{begins_expression, name_of, is_open_quote, literal_of, text_of}
 use Rattle.kt_grammar.specs.Readers.{meant, on_if, lines, expect}
 use Rattle.kt_grammar.specs.ExpressionParser as p

@@ -10,7 +10,7 @@ use Rattle.kt_tree.specs.Bodies as e
 use Rattle.kt_tree.specs.Bodies.{ExpressionTree, StatementTree}
 use Rattle.kt_grammar.specs.declared.context.Context.{Context}
 use Rattle.kt_grammar.specs.Declarations.{outside}
-use Rattle.kt_grammar.specs.Parsers.{Cursor, Parser, some_levels, first, ◌>>=◌, ◌>>◌, pure, attempt_if}
+use Rattle.kt_grammar_parsers.specs.Parsers.{Cursor, Parser, some_levels, first, ◌>>=◌, ◌>>◌, pure, attempt_if}
 use Rattle.kt_grammar.specs.Terminals.{name_of, assignment_of, step_of, range_of}
 use Rattle.kt_grammar.specs.Levels.{place}
 use Rattle.kt_grammar.specs.Readers.{meant, on_if, lines, expect}

@@ -2,7 +2,7 @@
 use Rattle.std.proofs.Common.{◌≡◌, Bool, true, false, List, Some, None, Result, Err, refl, ap, sym, subst, ◌∙◌}
 use Rattle.kt_grammar.specs.declared.error.ParseError.{ParseError}
 use Rattle.kt_tree.specs.declared.tokens.Token.{Token}
-use Rattle.kt_grammar.specs.Parsers.{Cursor, Parser, Outcome, ◌>>=◌, cursor, ahead, attempt, attempt_if, where_next, on}
+use Rattle.kt_grammar_parsers.specs.Parsers.{Cursor, Parser, Outcome, ◌>>=◌, cursor, ahead, attempt, attempt_if, where_next, on}
 use Rattle.kt_grammar.specs.Readers.{on_if}
 use Rattle.kt_grammar.specs.Cursors.{Turned}
 use Rattle.kt_grammar.proofs.Turns.{on_taken, on_missed}

@@ -2,7 +2,7 @@
 use Rattle.std.proofs.Common.{◌≡◌, ◌≢◌, Result, Ok, Err, subst}
 use Rattle.kt_grammar.specs.declared.error.ParseError.{ParseError}
 use Rattle.kt_grammar.specs.declared.error.ParseError.TheVariants as parse_error
-use Rattle.kt_grammar.specs.Parsers.{Cursor, Outcome}
+use Rattle.kt_grammar_parsers.specs.Parsers.{Cursor, Outcome}
 use Rattle.kt_parser_steps.specs.declared.refused.Refused.{Refused}
 use Rattle.kt_parser_steps.specs.Steps.{Expects, ReadsAs}
 

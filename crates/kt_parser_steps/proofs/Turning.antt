@@ -1,6 +1,6 @@
 -- A turn of a loop, and a turn of a list with commas.
 use Rattle.std.proofs.Common.{◌≡◌, ◌≢◌, Result, IsErr, IsErrAnd, ℕ, suc, ◌+◌, ◌-◌, ◌<◌, ◌≤◌, Bool, List, [], ◌∷◌, ◌++◌, Some, None, Ok, Err, map, refl, ap, sym, subst, ◌∙◌, arith, inl, inr, ◌⊎◌}
-use Rattle.kt_grammar.specs.Parsers.{Cursor, Parser, Outcome, further, loop, repeat, ◌>>=◌, token, comma_turn, comma_list, maybe_comma_list}
+use Rattle.kt_grammar_parsers.specs.Parsers.{Cursor, Parser, Outcome, further, loop, repeat, ◌>>=◌, token, comma_turn, comma_list, maybe_comma_list}
 use Rattle.kt_grammar.specs.Cursors.{Turned}
 use Rattle.kt_grammar.specs.declared.error.ParseError.{ParseError}
 use Rattle.kt_grammar.specs.declared.error.ParseError.TheVariants as parse_error

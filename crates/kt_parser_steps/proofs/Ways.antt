@@ -2,7 +2,7 @@
 use Rattle.std.proofs.Common.{◌≡◌, ℕ, zero, suc, ◌<◌, ◌≤◌, Bool, true, List, [], ◌∷◌, length, take, drop, get_or, ◌-◌, Some, None, Result, Ok, Err, refl, ap, sym, subst, ◌∙◌, arith}
 use Rattle.std.proofs.lemmas.List.{take_all}
 use Rattle.kt_grammar.specs.declared.error.ParseError.{ParseError}
-use Rattle.kt_grammar.specs.Parsers.{Cursor, Parser, Outcome, cursor, further, first, token, ahead, attempt, ◌>>◌, some_levels}
+use Rattle.kt_grammar_parsers.specs.Parsers.{Cursor, Parser, Outcome, cursor, further, first, token, ahead, attempt, ◌>>◌, some_levels}
 use Rattle.kt_grammar.specs.Cursors.{Turned}
 use Rattle.kt_grammar.proofs.Turns.{token_taken, token_missed}
 use Rattle.kt_parser_steps.specs.Steps.{Expects, ReadsAs}

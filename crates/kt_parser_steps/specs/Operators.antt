@@ -2,7 +2,7 @@
 use Rattle.std.specs.Prelude.{Bool}
 use Rattle.kt_tree.specs.declared.tokens.Token.{Token}
 use Rattle.kt_tree.specs.declared.bodies.BinaryOperator.{BinaryOperator}
-use Rattle.kt_grammar.specs.Parsers.{Parser, ◌>>◌}
+use Rattle.kt_grammar_parsers.specs.Parsers.{Parser, ◌>>◌}
 use Rattle.kt_grammar.specs.Readers.{lines, meant}
 use Rattle.kt_grammar.specs.Terminals.{disjunction_of, conjunction_of, equality_of, comparison_of, elvis_of, infix_of, additive_of, multiplicative_of, member_of}
 use Rattle.kt_parser_steps.specs.declared.meanings.BinaryLevel.{BinaryLevel}

@@ -1,6 +1,6 @@
 //! Parts that are taken where they are allowed and stand.
 
-ghost use Rattle.kt_grammar.specs.Parsers.{Parser, ahead};
+ghost use Rattle.kt_grammar_parsers.specs.Parsers.{Parser, ahead};
 ghost use Rattle.kt_grammar.specs.Terminals.{is_of};
 ghost use Rattle.kt_parser_steps.specs.Chosen.{FindsIf, TriesIf, TurnedIf};
 ghost use Rattle.kt_parser_steps.specs.Steps.{EachExpects, EachReads};

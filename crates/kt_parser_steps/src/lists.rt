@@ -1,7 +1,7 @@
 //! Lists of items of any kind.
 
-ghost use Rattle.kt_grammar.specs.Parsers as parsers;
-ghost use Rattle.kt_grammar.specs.Parsers.{Parser};
+ghost use Rattle.kt_grammar_parsers.specs.Parsers as parsers;
+ghost use Rattle.kt_grammar_parsers.specs.Parsers.{Parser};
 ghost use Rattle.kt_grammar.specs.Readers as readers;
 ghost use Rattle.kt_grammar.specs.Terminals.{is_of, is_separator};
 ghost use Rattle.kt_parser_steps.specs.Steps.{EachReads, Expects, Finds, ReadsAs, ended, given, lead_of, led_comma, place_of, turn_tree};

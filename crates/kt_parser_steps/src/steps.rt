@@ -1,7 +1,7 @@
 //! Steps that each production is made of.
 
-ghost use Rattle.kt_grammar.specs.Parsers as parsers;
-ghost use Rattle.kt_grammar.specs.Parsers.{cursor, further};
+ghost use Rattle.kt_grammar_parsers.specs.Parsers as parsers;
+ghost use Rattle.kt_grammar_parsers.specs.Parsers.{cursor, further};
 ghost use Rattle.kt_grammar.specs.Terminals as spec;
 ghost use Rattle.kt_grammar.specs.Terminals.{Meaning, is_of};
 ghost use Rattle.kt_grammar.specs.Readers as readers;

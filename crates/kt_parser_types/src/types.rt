@@ -5,7 +5,7 @@
 
 ghost use Rattle.kt_grammar.specs.Readers as readers;
 ghost use Rattle.kt_grammar.specs.Readers.{type_parser};
-ghost use Rattle.kt_grammar.specs.Parsers.{some_levels};
+ghost use Rattle.kt_grammar_parsers.specs.Parsers.{some_levels};
 ghost use Rattle.kt_tree.specs.Tokens.{is_sign};
 ghost use Rattle.kt_tree.specs.declared.tokens.Sign.TheVariants as sign;
 ghost use Rattle.kt_tree.specs.Types.{maybe_type, type_tree};

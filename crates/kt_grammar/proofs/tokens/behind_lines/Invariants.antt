@@ -1,5 +1,5 @@
 use Rattle.std.proofs.Common.{◌≡◌, length}
-use Rattle.kt_grammar.specs.Parsers.{behind}
+use Rattle.kt_grammar_parsers.specs.Parsers.{behind}
 use Rattle.kt_tree.specs.Tokens.{is_new_line}
 use Rattle.kt_grammar.proofs.tokens.behind_lines.Given as goal
 

@@ -1,5 +1,5 @@
 use Rattle.std.proofs.Common.{◌≡◌, length}
-use Rattle.kt_grammar.specs.Parsers.{behind}
+use Rattle.kt_grammar_parsers.specs.Parsers.{behind}
 use Rattle.kt_grammar.specs.Terminals.{is_separator}
 use Rattle.kt_grammar.proofs.tokens.behind_separators.Given as goal
 

@@ -1,7 +1,7 @@
 -- The words of which a grammar is made: which tokens spell which value, where certain tokens follow.
 use Rattle.std.specs.Prelude.{◌≡◌, Bool, true, false, List, [], ◌∷◌, ◌++◌, ◌⊎◌}
 use Rattle.std.proofs.Common.{inl, inr}
-use Rattle.kt_grammar.specs.Parsers.{first}
+use Rattle.kt_grammar_parsers.specs.Parsers.{first}
 
 -- a language: the value, the tokens that spell it, and the tokens that follow
 abbrev pub Language : Type 0 → Type 0 → Type 1

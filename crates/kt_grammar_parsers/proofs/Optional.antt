@@ -1,15 +1,15 @@
 -- Parts that may be absent, and phrases behind lines.
 use Rattle.std.proofs.Common.{◌≡◌, Bool, true, false, List, [], ◌∷◌, ◌++◌, refl, sym, ap, ◌∙◌, append_assoc}
-use Rattle.kt_grammar.specs.Parsers.{Cursor, Parser, cursor, first, ◌>>◌, token, skip, on, attempt}
-use Rattle.kt_grammar.specs.Phrases.{IsToken, IsSkipped, Seq, NotReads, FirstOf}
-use Rattle.kt_grammar.proofs.Ends.{tied_move}
-use Rattle.kt_grammar.proofs.Correct.{Correct, below, correct, same_parser}
-use Rattle.kt_grammar.proofs.Bind.{bind_correct}
-use Rattle.kt_grammar.proofs.Steps.{Any, token_correct}
-use Rattle.kt_grammar.proofs.Skip.{skip_correct}
-use Rattle.kt_grammar.proofs.On.{Phrase}
-use Rattle.kt_grammar.proofs.Attempt.{attempt_correct}
-use Rattle.kt_grammar.proofs.Forms.{NoneOf}
+use Rattle.kt_grammar_parsers.specs.Parsers.{Cursor, Parser, cursor, first, ◌>>◌, token, skip, on, attempt}
+use Rattle.kt_grammar_parsers.specs.Phrases.{IsToken, IsSkipped, Seq, NotReads, FirstOf}
+use Rattle.kt_grammar_parsers.proofs.Ends.{tied_move}
+use Rattle.kt_grammar_parsers.proofs.Correct.{Correct, below, correct, same_parser}
+use Rattle.kt_grammar_parsers.proofs.Bind.{bind_correct}
+use Rattle.kt_grammar_parsers.proofs.Steps.{Any, token_correct}
+use Rattle.kt_grammar_parsers.proofs.Skip.{skip_correct}
+use Rattle.kt_grammar_parsers.proofs.On.{Phrase}
+use Rattle.kt_grammar_parsers.proofs.Attempt.{attempt_correct}
+use Rattle.kt_grammar_parsers.proofs.Forms.{NoneOf}
 
 -- no phrase stands where its first token doesn't
 pub not_reads : {T A : Type 0} (test : T → Bool) (K : A → List T → List T → Type 0) → ((a : A) (u rest : List T) → K a u rest → first test (u ++ rest) ≡ true) → (ts : List T) → first test ts ≡ false → NotReads K ts

@@ -2,11 +2,11 @@
 -- there.
 use Rattle.std.proofs.Common.{◌≡◌, ℕ, ◌+◌, ◌-◌, ◌≤◌, ◌<◌, List, [], ◌∷◌, ◌++◌, length, take, Ok, Err, refl, sym, ap, subst, ◌∙◌, append_assoc, arith, inl, inr, length-append}
 use Rattle.std.proofs.lemmas.List.{append-nil, take_at}
-use Rattle.kt_grammar.specs.Parsers.{Cursor, Outcome, Parser, cursor}
-use Rattle.kt_grammar.specs.Sentences.{IsSentence, IsPrefix, IsRefusedAt, OneValue}
-use Rattle.kt_grammar.proofs.Ends.{Tied}
-use Rattle.kt_grammar.proofs.Correct.{Begun, Correct, not_both}
-use Rattle.kt_grammar.proofs.On.{Phrase}
+use Rattle.kt_grammar_parsers.specs.Parsers.{Cursor, Outcome, Parser, cursor}
+use Rattle.kt_grammar_parsers.specs.Sentences.{IsSentence, IsPrefix, IsRefusedAt, OneValue}
+use Rattle.kt_grammar_parsers.proofs.Ends.{Tied}
+use Rattle.kt_grammar_parsers.proofs.Correct.{Begun, Correct, not_both}
+use Rattle.kt_grammar_parsers.proofs.On.{Phrase}
 
 module _ {T A : Type 0} (p : Parser T A) (L : A → List T → List T → Type 0) (G N : A → List T → Type 0) (C : Correct p L G N)
     (final : (a : A) → G a []) (final' : (a : A) → N a []) (some : Phrase L N) where

@@ -2,12 +2,12 @@
 -- reads nothing there.
 use Rattle.std.proofs.Common.{◌≡◌, ◌≤◌, ◌<◌, List, ◌++◌, length, Ok, Err, refl, sym, ap, subst, ◌∙◌, append_assoc, arith, inl, inr, ◌⊎◌, length-append}
 use Rattle.std.proofs.lemmas.Bool.{cases_lt}
-use Rattle.kt_grammar.specs.Parsers.{Cursor, Outcome, Parser, cursor, and_then, ◌>>=◌, tried, attempt}
-use Rattle.kt_grammar.specs.Phrases.{Seq, NotReads, FirstOf}
-use Rattle.kt_grammar.proofs.Ends.{Tied, Split, longer_end, tied_move, tied_as, cursor_as, far_split, far_same}
-use Rattle.kt_grammar.proofs.Correct.{Begun, Reading, Refusal, Accepted, Correct, Completion, then_ok, which, not_both}
-use Rattle.kt_grammar.proofs.Bind.{tied_on, bind_correct}
-use Rattle.kt_grammar.proofs.Steps.{Any}
+use Rattle.kt_grammar_parsers.specs.Parsers.{Cursor, Outcome, Parser, cursor, and_then, ◌>>=◌, tried, attempt}
+use Rattle.kt_grammar_parsers.specs.Phrases.{Seq, NotReads, FirstOf}
+use Rattle.kt_grammar_parsers.proofs.Ends.{Tied, Split, longer_end, tied_move, tied_as, cursor_as, far_split, far_same}
+use Rattle.kt_grammar_parsers.proofs.Correct.{Begun, Reading, Refusal, Accepted, Correct, Completion, then_ok, which, not_both}
+use Rattle.kt_grammar_parsers.proofs.Bind.{tied_on, bind_correct}
+use Rattle.kt_grammar_parsers.proofs.Steps.{Any}
 
 module _ {T A B : Type 0} (r : Parser T A) (go : A → Parser T B) (other : Parser T B) (K : A → List T → List T → Type 0) (L : A → B → List T → List T → Type 0) (M : B → List T → List T → Type 0)
     (NK : A → List T → Type 0) (G N : B → List T → Type 0)

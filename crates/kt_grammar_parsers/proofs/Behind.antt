@@ -1,6 +1,6 @@
 -- Skipping one token after the other.
 use Rattle.std.proofs.Common.{◌≡◌, ◌<◌, Bool, true, false, List, [], ◌∷◌, length, refl, sym, ap, ◌∙◌, arith}
-use Rattle.kt_grammar.specs.Parsers.{first, behind, tail}
+use Rattle.kt_grammar_parsers.specs.Parsers.{first, behind, tail}
 
 pub behind_more : {T : Type 0} (test : T → Bool) (ts : List T) → first test ts ≡ true → behind test ts ≡ behind test (tail ts)
 behind_more test [] h = absurd cc

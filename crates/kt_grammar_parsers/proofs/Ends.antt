@@ -2,7 +2,7 @@
 use Rattle.std.proofs.Common.{◌≡◌, ◌≤◌, ◌<◌, List, [], ◌∷◌, ◌++◌, length, refl, sym, ap, ◌∙◌, append_assoc, arith, inl, inr, ◌⊎◌, length-append}
 use Rattle.std.proofs.lemmas.List.{append_cancel_right}
 use Rattle.std.proofs.lemmas.Bool.{cases_lt, le-leb, lt-leb}
-use Rattle.kt_grammar.specs.Parsers.{Cursor, cursor, further}
+use Rattle.kt_grammar_parsers.specs.Parsers.{Cursor, cursor, further}
 
 -- both are ends of one list
 pub record Tied {T : Type 0} (c : Cursor T) : Type 0 where

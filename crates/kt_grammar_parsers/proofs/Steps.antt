@@ -1,10 +1,10 @@
 -- The steps that read tokens one by one.
 use Rattle.std.proofs.Common.{◌≡◌, ◌≤◌, ◌<◌, Bool, true, false, cond, List, [], ◌∷◌, ◌++◌, length, Ok, Err, refl, sym, ap, subst, ◌∙◌, arith, inl, inr, ◌⊎◌, length-append}
 use Rattle.std.proofs.lemmas.List.{append_cancel_right}
-use Rattle.kt_grammar.specs.Parsers.{Cursor, cursor, further, pure, token}
-use Rattle.kt_grammar.specs.Phrases.{IsNothing, IsToken}
-use Rattle.kt_grammar.proofs.Ends.{picks, further_cases, further_short}
-use Rattle.kt_grammar.proofs.Correct.{Begun, Reading, Refusal, Accepted, Correct}
+use Rattle.kt_grammar_parsers.specs.Parsers.{Cursor, cursor, further, pure, token}
+use Rattle.kt_grammar_parsers.specs.Phrases.{IsNothing, IsToken}
+use Rattle.kt_grammar_parsers.proofs.Ends.{picks, further_cases, further_short}
+use Rattle.kt_grammar_parsers.proofs.Correct.{Begun, Reading, Refusal, Accepted, Correct}
 
 -- anything may follow
 abbrev pub Any : {T A : Type 0} → A → List T → Type 0

@@ -1,12 +1,12 @@
 -- Turns until one ends it.
 use Rattle.std.proofs.Common.{◌≡◌, ℕ, zero, suc, ◌≤◌, ◌<◌, List, [], ◌++◌, length, Ok, Err, refl, sym, ap, subst, ◌∙◌, arith, inl, inr, ◌⊎◌, length-append}
 use Rattle.std.proofs.lemmas.List.{append-nil}
-use Rattle.kt_grammar.specs.Parsers.{Cursor, Outcome, Parser, and_then, ◌>>=◌, pure, again, loop, repeat}
-use Rattle.kt_grammar.specs.Phrases.{IsNothing, Seq, Loop, ends, turns}
-use Rattle.kt_grammar.proofs.Ends.{Tied, tied_move}
-use Rattle.kt_grammar.proofs.Correct.{Below, Correct, Completion, below, correct, same_parser, same_language}
-use Rattle.kt_grammar.proofs.Bind.{tied_on, bind_below}
-use Rattle.kt_grammar.proofs.Steps.{pure_correct}
+use Rattle.kt_grammar_parsers.specs.Parsers.{Cursor, Outcome, Parser, and_then, ◌>>=◌, pure, again, loop, repeat}
+use Rattle.kt_grammar_parsers.specs.Phrases.{IsNothing, Seq, Loop, ends, turns}
+use Rattle.kt_grammar_parsers.proofs.Ends.{Tied, tied_move}
+use Rattle.kt_grammar_parsers.proofs.Correct.{Below, Correct, Completion, below, correct, same_parser, same_language}
+use Rattle.kt_grammar_parsers.proofs.Bind.{tied_on, bind_below}
+use Rattle.kt_grammar_parsers.proofs.Steps.{pure_correct}
 
 -- J is what may follow a turn, and E what may follow one that was completed.
 module _ {T S B : Type 0} (turn : S → Parser T (S ⊎ B)) (Turn : S → S ⊎ B → List T → List T → Type 0) (J E : S ⊎ B → List T → Type 0) (G N : B → List T → Type 0)

@@ -1,11 +1,11 @@
 -- Tokens that are skipped.
 use Rattle.std.proofs.Common.{◌≡◌, ◌≤◌, ◌<◌, Bool, true, false, List, [], ◌∷◌, ◌++◌, length, Ok, Err, refl, sym, ap, subst, ◌∙◌, arith, inl, inr, ◌⊎◌, length-append}
 use Rattle.std.proofs.lemmas.List.{append-nil, append_cancel_right}
-use Rattle.kt_grammar.specs.Parsers.{Cursor, cursor, further, first, behind, skip}
-use Rattle.kt_grammar.specs.Phrases.{AllPass, IsSkipped}
-use Rattle.kt_grammar.proofs.Ends.{further_cases, further_short}
-use Rattle.kt_grammar.proofs.Correct.{Begun, Reading, Accepted, Correct}
-use Rattle.kt_grammar.proofs.Steps.{truth, mark_moves}
+use Rattle.kt_grammar_parsers.specs.Parsers.{Cursor, cursor, further, first, behind, skip}
+use Rattle.kt_grammar_parsers.specs.Phrases.{AllPass, IsSkipped}
+use Rattle.kt_grammar_parsers.proofs.Ends.{further_cases, further_short}
+use Rattle.kt_grammar_parsers.proofs.Correct.{Begun, Reading, Accepted, Correct}
+use Rattle.kt_grammar_parsers.proofs.Steps.{truth, mark_moves}
 
 record Lead {T : Type 0} (test : T → Bool) (ts : List T) : Type 0 where
   front : List T

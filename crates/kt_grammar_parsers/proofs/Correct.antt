@@ -1,7 +1,7 @@
 -- When a parser reads exactly a language, and refuses where nothing can go on.
 use Rattle.std.proofs.Common.{◌≡◌, ℕ, suc, ◌≤◌, ◌<◌, List, ◌++◌, length, Ok, Err, refl, sym, ◌∙◌, arith, inl, inr, ◌⊎◌}
-use Rattle.kt_grammar.specs.Parsers.{Cursor, Outcome, Parser, cursor, and_then}
-use Rattle.kt_grammar.proofs.Ends.{Tied}
+use Rattle.kt_grammar_parsers.specs.Parsers.{Cursor, Outcome, Parser, cursor, and_then}
+use Rattle.kt_grammar_parsers.proofs.Ends.{Tied}
 
 -- The tokens up to k begin a phrase: with some more tokens they are one, whatever follows that N allows.
 pub record Begun {T A : Type 0} (L : A → List T → List T → Type 0) (N : A → List T → Type 0) (ts k : List T) : Type 0 where

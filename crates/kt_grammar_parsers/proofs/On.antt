@@ -1,11 +1,11 @@
 -- A choice by the next token, which it takes, or examines in vain.
 use Rattle.std.proofs.Common.{◌≡◌, ◌<◌, Bool, true, false, List, [], ◌∷◌, ◌++◌, length, Ok, Err, refl, sym, ap, subst, ◌∙◌, arith, inl, inr, ◌⊎◌, length-append}
-use Rattle.kt_grammar.specs.Parsers.{Cursor, Parser, cursor, further, first, ◌>>=◌, token, on}
-use Rattle.kt_grammar.specs.Phrases.{IsToken, Seq, Either}
-use Rattle.kt_grammar.proofs.Ends.{Tied, picks, further_cases, further_short, tied_mark}
-use Rattle.kt_grammar.proofs.Correct.{Begun, Reading, Refusal, Accepted, Correct}
-use Rattle.kt_grammar.proofs.Bind.{bind_correct}
-use Rattle.kt_grammar.proofs.Steps.{Any, truth, token_correct}
+use Rattle.kt_grammar_parsers.specs.Parsers.{Cursor, Parser, cursor, further, first, ◌>>=◌, token, on}
+use Rattle.kt_grammar_parsers.specs.Phrases.{IsToken, Seq, Either}
+use Rattle.kt_grammar_parsers.proofs.Ends.{Tied, picks, further_cases, further_short, tied_mark}
+use Rattle.kt_grammar_parsers.proofs.Correct.{Begun, Reading, Refusal, Accepted, Correct}
+use Rattle.kt_grammar_parsers.proofs.Bind.{bind_correct}
+use Rattle.kt_grammar_parsers.proofs.Steps.{Any, truth, token_correct}
 
 -- a phrase of the language, whatever follows that N allows
 pub record Phrase {T B : Type 0} (L : B → List T → List T → Type 0) (N : B → List T → Type 0) : Type 0 where
