@@ -1,4 +1,3 @@
-pub mod Turns
 mod Examples
 mod LevelExamples
 pub mod Apart

@@ -5,7 +5,6 @@ pub mod Levels
 pub mod Expressions
 pub mod Statements
 pub mod Declarations
-pub mod Cursors
 pub mod Readers
 pub mod ExpressionParser
 pub mod StatementParser

@@ -23,8 +23,6 @@ use Rattle.kt_tree.specs.declared.bodies.StepOperator.{StepOperator}
 use Rattle.kt_tree.specs.declared.bodies.StepOperator.TheVariants as step
 use Rattle.kt_tree.specs.declared.bodies.RangeOperator.{RangeOperator}
 use Rattle.kt_tree.specs.declared.bodies.RangeOperator.TheVariants as range
-use Rattle.kt_grammar.specs.declared.classes.TokenClass.{TokenClass}
-use Rattle.kt_grammar.specs.declared.classes.TokenClass.TheVariants as class
 use Rattle.kt_tree.specs.Tokens.{is_keyword, is_sign, is_soft_keyword, is_new_line}
 
 -- one of two
@@ -145,21 +143,6 @@ is_this_part token = kind_is_this_part token.kind
 
 abbrev pub is_open_template : Token → Bool
 is_open_template token = kind_is_open_template token.kind
-
--- ---- classes of tokens
-
-abbrev pub is_of : TokenClass → Token → Bool
-is_of class.Separator = is_separator
-is_of class.CloseBrace = is_sign sign.CloseBrace
-is_of class.End = is_end
-is_of class.OpensArguments = opens_arguments
-is_of class.BeginsExpression = begins_expression
-is_of class.NoArrow = is_no_arrow
-is_of class.OpenQuote = is_open_quote
-is_of class.CloseQuote = is_close_quote
-is_of class.NamePart = is_name_part
-is_of class.ThisPart = is_this_part
-is_of class.OpenTemplate = is_open_template
 
 -- ---- tokens that stand for a value
 

@@ -34,8 +34,8 @@ expression precedence.Cast n = (parsers n).cast
 expression precedence.Prefix n = (parsers n).prefix
 
 -- there is room for a level above
-abbrev pub has_room : ℕ → ExpressionTree → Bool
-has_room n a = nat_lt (levels a) (suc n)
+abbrev pub has_more : ℕ → ExpressionTree → Bool
+has_more n a = nat_lt (levels a) (suc n)
 
 -- ---- lambda literals, which are the same in each context
 

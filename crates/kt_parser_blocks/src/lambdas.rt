@@ -10,10 +10,8 @@ ghost use Rattle.kt_tree.specs.Bodies.{block_tree, body_tree, parameter_tree};
 ghost use Rattle.std.specs.Prelude.{map};
 
 use crate::below::{Below, Precedence};
-use kt_grammar::{Context, ParseError, TokenClass, Tokens};
-use kt_parser_steps::{
-    Lead, attempt_if, beside, expect, expect_identifier, name_of, separated, several,
-};
+use kt_grammar::Context;
+use kt_parser_steps::{Lead, ParseError, TokenClass, Tokens, attempt_if, beside, expect, expect_identifier, name_of, separated, several};
 use kt_parser_types::annotation;
 use kt_tree::{Block, ControlStructureBody, Expression, LambdaParameter, Sign, Statement, Token};
 use kt_tree_nodes::blocks::{block, braces, single};

@@ -3,14 +3,13 @@
 ghost use Rattle.kt_parser_declarations.specs.Rests as rests;
 ghost use Rattle.kt_grammar.specs.DeclarationParser as parser;
 ghost use Rattle.kt_grammar_parsers.specs.Parsers.{Parser};
-ghost use Rattle.kt_grammar.specs.Terminals.{is_of};
+ghost use Rattle.kt_parser_steps.specs.Classes.{is_of};
 ghost use Rattle.kt_parser_steps.specs.Steps.{EachReads, Finds, ReadsAs};
 ghost use Rattle.kt_tree.specs.declared.tokens.Token.{Token};
 ghost use Rattle.std.specs.Prelude.{IfOk, map};
 
 use kt_base::NoMemory;
-use kt_grammar::{ParseError, TokenClass, Tokens};
-use kt_parser_steps::{Lead, Node, attempt_if, expect, separated, several};
+use kt_parser_steps::{Lead, Node, ParseError, TokenClass, Tokens, attempt_if, expect, separated, several};
 use kt_tree::{Sign, Token};
 use sqlite_items::Items;
 use std::alloc::Global;

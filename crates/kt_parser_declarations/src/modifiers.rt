@@ -8,8 +8,7 @@ ghost use Rattle.kt_parser_steps.specs.Steps.{ReadsAs, turn_tree};
 ghost use Rattle.std.specs.Prelude.{◌≡◌};
 
 use kt_base::Pos;
-use kt_grammar::{ParseError, Tokens};
-use kt_parser_steps::{Node, Turn, expect_keyword, repeat, soft_keyword_if};
+use kt_parser_steps::{Node, ParseError, Tokens, Turn, expect_keyword, repeat, soft_keyword_if};
 use kt_tree::{ClassModifiers, FunctionModifiers, Keyword, SoftKeyword, Token};
 
 /// The modifiers so far, and the place of the first of them.

@@ -5,7 +5,7 @@ use Rattle.kt_base.specs.declared.errors.NoMemory.{NoMemory}
 use Rattle.kt_tree.specs.declared.tokens.Token.{Token}
 use Rattle.kt_tree.specs.declared.bodies.Expression.{Expression}
 use Rattle.kt_tree.specs.Bodies.{ExpressionTree, expression_tree}
-use Rattle.kt_grammar.specs.declared.error.ParseError.{ParseError}
+use Rattle.kt_parser_steps.specs.declared.error.ParseError.{ParseError}
 use Rattle.kt_grammar_parsers.specs.Parsers.{Cursor, Parser}
 use Rattle.kt_parser_steps.specs.Steps.{ReadsAs}
 use Rattle.kt_parser_steps.specs.Chosen.{FindsIf}

@@ -22,7 +22,7 @@ use Rattle.kt_parser_steps.specs.declared.meanings.BinaryLevel.TheVariants as le
 use Rattle.kt_parser_steps.specs.Operators.{member_sign, operator_of}
 use Rattle.kt_parser_blocks.specs.declared.below.Precedence.{Precedence}
 use Rattle.kt_parser_blocks.specs.declared.below.Precedence.TheVariants as precedence
-use Rattle.kt_parser_blocks.specs.Rules.{expression, has_room}
+use Rattle.kt_parser_blocks.specs.Rules.{expression, has_more}
 
 -- what the right operand of an operator is made of
 abbrev pub right_operand : BinaryLevel → Precedence
@@ -75,8 +75,8 @@ module _ (n : ℕ) (at : Context) where
   -- a suffix that is no call
   abbrev pub other_suffix_turn : ExpressionTree → Parser Token (ExpressionTree ⊎ ExpressionTree)
   other_suffix_turn a =
-      on_if (has_room n a) (is_sign sign.NotNull) (λ _. pure (inl (e.not_null (place a) a)))
-      (on_if (has_room n a) (is_sign sign.OpenBracket) (λ _. element_rest a) (member_turn (has_room n a) a))
+      on_if (has_more n a) (is_sign sign.NotNull) (λ _. pure (inl (e.not_null (place a) a)))
+      (on_if (has_more n a) (is_sign sign.OpenBracket) (λ _. element_rest a) (member_turn (has_more n a) a))
 
   -- the arguments of a call, behind its type arguments
   abbrev pub call_rest : ExpressionTree → List TypeTree → Parser Token (ExpressionTree ⊎ ExpressionTree)
@@ -101,14 +101,14 @@ module _ (n : ℕ) where
   cast_rest a safe = lines >> (type_parser (suc n) >>= (λ t. pure (inl (e.cast (place a) a safe t))))
 
   abbrev pub cast_turn : ExpressionTree → Parser Token (ExpressionTree ⊎ ExpressionTree)
-  cast_turn a = attempt_if (has_room n a) (meant cast_of) (λ safe. cast_rest a safe.1) (pure (inr a))
+  cast_turn a = attempt_if (has_more n a) (meant cast_of) (λ safe. cast_rest a safe.1) (pure (inr a))
 
   -- ('is' | '!is') lines type, behind an operand
   abbrev pub type_check_rest : ExpressionTree → Bool → Parser Token ExpressionTree
   type_check_rest a not = lines >> (type_parser (suc n) >>= (λ t. pure (e.type_check (place a) a not t)))
 
   abbrev pub type_check_behind : ExpressionTree → Parser Token ExpressionTree
-  type_check_behind a = attempt_if (has_room n a) (meant type_check_of) (λ not. type_check_rest a not.1) (pure a)
+  type_check_behind a = attempt_if (has_more n a) (meant type_check_of) (λ not. type_check_rest a not.1) (pure a)
 
 module _ (n : ℕ) (at : Context) where
   -- ---- operators between two operands
@@ -123,12 +123,12 @@ module _ (n : ℕ) (at : Context) where
 
   -- a turn of a chain of binary operators
   abbrev pub binary_turn : BinaryLevel → ExpressionTree → Parser Token (ExpressionTree ⊎ ExpressionTree)
-  binary_turn l a = attempt_if (has_room n a) (operator_of l) (λ o. binary_rest l o.1 a) (pure (inr a))
+  binary_turn l a = attempt_if (has_more n a) (operator_of l) (λ o. binary_rest l o.1 a) (pure (inr a))
 
   -- a comparison operator and its right operand, behind the left one
   abbrev pub comparison_behind : ExpressionTree → Parser Token ExpressionTree
   comparison_behind a =
-      attempt_if (has_room n a) (operator_of level.Comparison)
+      attempt_if (has_more n a) (operator_of level.Comparison)
       (λ o. operand level.Comparison (λ b. e.binary (place a) o.1 a b)) (pure a)
 
   -- ---- the rows, from the one that binds most

@@ -8,12 +8,9 @@ ghost use Rattle.kt_grammar_parsers.specs.Parsers.{repeat};
 ghost use Rattle.kt_parser_steps.specs.Steps.{turn_tree};
 ghost use Rattle.std.specs.Prelude.{◌≡◌};
 
-use kt_grammar::{Context, ParseError, Tokens};
+use kt_grammar::Context;
 use kt_parser_blocks::{Below, Precedence};
-use kt_parser_steps::{
-    BinaryLevel, Turn, beside, repeat, take_binary_operator, take_cast, take_prefix_operator,
-    take_type_check,
-};
+use kt_parser_steps::{BinaryLevel, ParseError, Tokens, Turn, beside, repeat, take_binary_operator, take_cast, take_prefix_operator, take_type_check};
 use kt_parser_types::read_type;
 use kt_tree::{BinaryOperator, Expression, PrefixOperator, Statement, Token};
 use kt_tree_nodes::expressions::{binary, cast, prefix, type_check};
@@ -86,7 +83,7 @@ impl<
         ensures { ReadsAs (turn_tree expression_tree expression_tree)
             (rules.binary_turn self.now.below.room at level (expression_tree left) tokens.old) result tokens.new }
     {
-        let allowed = self.below.has_room(&left);
+        let allowed = self.below.has_more(&left);
         match take_binary_operator(allowed, level, tokens) {
             Some((_, operator)) => self.binary_rest(level, at, operator, left, tokens),
             None => Ok(Turn::Done(left)),
@@ -215,7 +212,7 @@ impl<
         ensures { ReadsAs expression_tree
             (rules.type_check_behind self.now.below.room (expression_tree value) tokens.old) result tokens.new }
     {
-        let allowed = self.below.has_room(&value);
+        let allowed = self.below.has_more(&value);
         match take_type_check(allowed, tokens) {
             Some((_, negated)) => self.type_check_rest(value, negated, tokens),
             None => Ok(value),
@@ -305,7 +302,7 @@ impl<
         ensures { ReadsAs (turn_tree expression_tree expression_tree)
             (rules.cast_turn self.now.below.room (expression_tree value) tokens.old) result tokens.new }
     {
-        let allowed = self.below.has_room(&value);
+        let allowed = self.below.has_more(&value);
         match take_cast(allowed, tokens) {
             Some((_, safe)) => self.cast_rest(value, safe, tokens),
             None => Ok(Turn::Done(value)),

@@ -13,13 +13,10 @@ ghost use Rattle.kt_tree.specs.Types.{type_tree};
 ghost use Rattle.std.specs.Prelude.{◌≡◌, map, suc};
 
 use crate::operators::Operators;
-use kt_grammar::{Context, ParseError, TokenClass, Tokens};
+use kt_grammar::Context;
 use kt_parser_blocks::Precedence;
 use kt_parser_primaries::Primaries;
-use kt_parser_steps::{
-    Turn, attempt_if, beside, class_ahead, class_ahead_if, expect, expect_identifier,
-    maybe_comma_list, name_of, repeat, sign_ahead, sign_if, take_member,
-};
+use kt_parser_steps::{ParseError, TokenClass, Tokens, Turn, attempt_if, beside, class_ahead, class_ahead_if, expect, expect_identifier, maybe_comma_list, name_of, repeat, sign_ahead, sign_if, take_member};
 use kt_parser_types::type_arguments;
 use kt_tree::{Expression, ExpressionKind, Sign, Statement, TypeReference};
 use kt_tree_nodes::expressions::{call, index, member, not_null};
@@ -167,7 +164,7 @@ impl<
         ensures { ReadsAs (turn_tree expression_tree expression_tree)
             (rules.other_suffix_turn self.now.below.room at (expression_tree value) tokens.old) result tokens.new }
     {
-        let allowed = self.below.has_room(&value);
+        let allowed = self.below.has_more(&value);
         match sign_if(allowed, tokens, Sign::NotNull) {
             Some(_) => Ok(Turn::More(not_null(self.below.alloc, value)?)),
             None => match sign_if(allowed, tokens, Sign::OpenBracket) {

@@ -5,9 +5,9 @@ ghost use Rattle.kt_parser_steps.specs.Steps.{ReadsAs};
 ghost use Rattle.kt_tree.specs.Bodies.{expression_tree};
 ghost use Rattle.kt_parser_primaries.specs.Rules as rules;
 
-use kt_grammar::{Context, ParseError, TokenClass, Tokens};
+use kt_grammar::Context;
 use kt_parser_blocks::{Below, Precedence};
-use kt_parser_steps::{beside, class_ahead, expect, keyword_if, name_of, sign_if, take_literal};
+use kt_parser_steps::{ParseError, TokenClass, Tokens, beside, class_ahead, expect, keyword_if, name_of, sign_if, take_literal};
 use kt_tree::{Expression, Keyword, Sign, Statement, Token};
 use kt_tree_nodes::expressions::{
     break_loop, continue_loop, literal, name, parenthesized, return_with, this, throw,

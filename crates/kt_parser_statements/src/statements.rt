@@ -14,13 +14,10 @@ ghost use Rattle.kt_parser_steps.specs.Chosen.{found_token};
 ghost use Rattle.std.specs.Prelude.{◌≡◌, IfOk, option_map};
 
 use kt_base::NoMemory;
-use kt_grammar::{Context, ParseError, Tokens};
+use kt_grammar::Context;
 use kt_parser_blocks::{Below, Precedence};
 use kt_parser_operators::Operators;
-use kt_parser_steps::{
-    Refused, beside, expect, expect_identifier, expect_keyword, keyword_if, name_of, sign_ahead,
-    sign_if, take_assignment_operator, take_range_operator, take_step_operator, take_variable,
-};
+use kt_parser_steps::{ParseError, Refused, Tokens, beside, expect, expect_identifier, expect_keyword, keyword_if, name_of, sign_ahead, sign_if, take_assignment_operator, take_range_operator, take_step_operator, take_variable};
 use kt_parser_types::annotation;
 use kt_tree::{
     AssignmentOperator, ControlStructureBody, Expression, ExpressionKind, Keyword, RangeOperator,
@@ -176,7 +173,7 @@ impl<
             (S.pre self.now.below.statement) (S.post self.now.below.statement) }
         ensures { result ≡ rules.assigns self.now.below.room (expression_tree target.now) }
     {
-        is_target(target) && self.below.has_room(target)
+        is_target(target) && self.below.has_more(target)
     }
 
     /// `ID (':' type)? ('=' n expr)?`, behind this `val` or `var`.

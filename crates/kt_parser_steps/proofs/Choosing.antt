@@ -1,11 +1,11 @@
 -- A choice reads what the part reads that it chooses.
 use Rattle.std.proofs.Common.{◌≡◌, Bool, true, false, List, Some, None, Result, Err, refl, ap, sym, subst, ◌∙◌}
-use Rattle.kt_grammar.specs.declared.error.ParseError.{ParseError}
+use Rattle.kt_parser_steps.specs.declared.error.ParseError.{ParseError}
 use Rattle.kt_tree.specs.declared.tokens.Token.{Token}
 use Rattle.kt_grammar_parsers.specs.Parsers.{Cursor, Parser, Outcome, ◌>>=◌, cursor, ahead, attempt, attempt_if, where_next, on}
 use Rattle.kt_grammar.specs.Readers.{on_if}
-use Rattle.kt_grammar.specs.Cursors.{Turned}
-use Rattle.kt_grammar.proofs.Turns.{on_taken, on_missed}
+use Rattle.kt_parser_steps.specs.Cursors.{Turned}
+use Rattle.kt_parser_steps.proofs.Turns.{on_taken, on_missed}
 use Rattle.kt_parser_steps.specs.Steps.{ReadsAs, Tries}
 use Rattle.kt_parser_steps.specs.Chosen.{TurnedIf, FindsIf, TriesIf}
 use Rattle.kt_parser_steps.proofs.Ways.{reads_from, attempt_ok, attempt_err}

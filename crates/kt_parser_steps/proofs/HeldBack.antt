@@ -1,7 +1,7 @@
 -- What a part read that stands beside a value that was made already.
 use Rattle.std.proofs.Common.{◌≡◌, ◌≢◌, Result, Ok, Err, subst}
-use Rattle.kt_grammar.specs.declared.error.ParseError.{ParseError}
-use Rattle.kt_grammar.specs.declared.error.ParseError.TheVariants as parse_error
+use Rattle.kt_parser_steps.specs.declared.error.ParseError.{ParseError}
+use Rattle.kt_parser_steps.specs.declared.error.ParseError.TheVariants as parse_error
 use Rattle.kt_grammar_parsers.specs.Parsers.{Cursor, Outcome}
 use Rattle.kt_parser_steps.specs.declared.refused.Refused.{Refused}
 use Rattle.kt_parser_steps.specs.Steps.{Expects, ReadsAs}

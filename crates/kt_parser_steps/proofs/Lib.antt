@@ -1,3 +1,4 @@
+pub mod Turns
 pub mod FurtherItems
 pub mod SeparatedItems
 pub mod Turning

@@ -1,10 +1,10 @@
 -- The steps that productions are made of, one equation for each way through their code.
 use Rattle.std.proofs.Common.{◌≡◌, ℕ, zero, suc, ◌<◌, ◌≤◌, Bool, true, List, [], ◌∷◌, length, take, drop, get_or, ◌-◌, Some, None, Result, Ok, Err, refl, ap, sym, subst, ◌∙◌, arith}
 use Rattle.std.proofs.lemmas.List.{take_all}
-use Rattle.kt_grammar.specs.declared.error.ParseError.{ParseError}
+use Rattle.kt_parser_steps.specs.declared.error.ParseError.{ParseError}
 use Rattle.kt_grammar_parsers.specs.Parsers.{Cursor, Parser, Outcome, cursor, further, first, token, ahead, attempt, ◌>>◌, some_levels}
-use Rattle.kt_grammar.specs.Cursors.{Turned}
-use Rattle.kt_grammar.proofs.Turns.{token_taken, token_missed}
+use Rattle.kt_parser_steps.specs.Cursors.{Turned}
+use Rattle.kt_parser_steps.proofs.Turns.{token_taken, token_missed}
 use Rattle.kt_parser_steps.specs.Steps.{Expects, ReadsAs}
 use Rattle.kt_parser_steps.specs.declared.refused.Refused.{Refused}
 use Rattle.kt_tree.specs.declared.tokens.Token.{Token}
@@ -51,9 +51,9 @@ past_taken test q c c1 t h = rw (token_taken test c t c1 h) refl
 pub past_missed : {T B : Type 0} (test : T → Bool) (q : Parser T B) (c c1 : Cursor T) → Turned test c None c1 → (token test >> q) c ≡ Err c1.far
 past_missed test q c c1 h = rw (token_missed test c c1 h) refl
 
-pub has_room : (n : ℕ) → 0 < n → some_levels n ≡ true
-has_room zero h = absurd (omega arith)
-has_room (suc n) h = refl
+pub levels_left : (n : ℕ) → 0 < n → some_levels n ≡ true
+levels_left zero h = absurd (omega arith)
+levels_left (suc n) h = refl
 
 -- ---- what the next token stands for
 

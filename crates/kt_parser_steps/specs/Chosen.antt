@@ -3,7 +3,7 @@ use Rattle.std.specs.Prelude.{◌≡◌, Bool, true, false, Option, None}
 use denote.Ref.{Bor}
 use Rattle.kt_tree.specs.declared.tokens.Token.{Token}
 use Rattle.kt_grammar_parsers.specs.Parsers.{Cursor, Parser}
-use Rattle.kt_grammar.specs.Cursors.{Turned}
+use Rattle.kt_parser_steps.specs.Cursors.{Turned}
 use Rattle.kt_parser_steps.specs.Steps.{Finds, Tries}
 
 -- the next token was taken where it is allowed and passes the test

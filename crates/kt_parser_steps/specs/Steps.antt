@@ -6,8 +6,8 @@ use Rattle.kt_tree.specs.declared.tokens.Token.{Token}
 use Rattle.kt_tree.specs.Tokens.{is_new_line, is_sign}
 use Rattle.kt_base.specs.declared.refusals.Pos.{Pos}
 use Rattle.kt_tree.specs.declared.tokens.Sign.TheVariants as sign
-use Rattle.kt_grammar.specs.declared.error.ParseError.{ParseError}
-use Rattle.kt_grammar.specs.declared.error.ParseError.TheVariants as parse_error
+use Rattle.kt_parser_steps.specs.declared.error.ParseError.{ParseError}
+use Rattle.kt_parser_steps.specs.declared.error.ParseError.TheVariants as parse_error
 use Rattle.kt_grammar_parsers.specs.Parsers.{Cursor, Outcome, Parser, ◌>>=◌, ◌>>◌, pure, token, skip}
 use Rattle.kt_tree.specs.declared.bodies.BinaryOperator.{BinaryOperator}
 use Rattle.kt_grammar.specs.Terminals.{Meaning, disjunction_of, conjunction_of, equality_of, comparison_of, elvis_of, infix_of, additive_of, multiplicative_of}

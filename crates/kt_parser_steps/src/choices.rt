@@ -1,7 +1,7 @@
 //! Parts that are taken where they are allowed and stand.
 
 ghost use Rattle.kt_grammar_parsers.specs.Parsers.{Parser, ahead};
-ghost use Rattle.kt_grammar.specs.Terminals.{is_of};
+ghost use Rattle.kt_parser_steps.specs.Classes.{is_of};
 ghost use Rattle.kt_parser_steps.specs.Chosen.{FindsIf, TriesIf, TurnedIf};
 ghost use Rattle.kt_parser_steps.specs.Steps.{EachExpects, EachReads};
 ghost use Rattle.kt_tree.specs.declared.tokens.Token.{Token};
@@ -13,7 +13,9 @@ use crate::node::Node;
 use crate::refused::Refused;
 use crate::steps::class_ahead;
 use kt_base::NoMemory;
-use kt_grammar::{ParseError, TokenClass, Tokens};
+use crate::error::ParseError;
+use crate::classes::TokenClass;
+use crate::tokens::Tokens;
 use kt_tree::{Keyword, Sign, SoftKeyword, Token};
 
 /// Takes the next token where this sign is allowed, and is it.

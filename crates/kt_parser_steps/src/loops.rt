@@ -7,7 +7,8 @@ ghost use Rattle.kt_tree.specs.declared.tokens.Token.{Token};
 ghost use Rattle.std.specs.Prelude.{◌⊎◌};
 
 use crate::node::Node;
-use kt_grammar::{ParseError, Tokens};
+use crate::error::ParseError;
+use crate::tokens::Tokens;
 
 /// What a turn of a loop gives.
 pub enum Turn<S, B> {

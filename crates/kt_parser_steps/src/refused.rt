@@ -1,9 +1,9 @@
 //! Why a step that takes no memory wasn't taken.
 
-ghost use Rattle.kt_grammar.specs.declared.error.ParseError.TheVariants as parse_error;
+ghost use Rattle.kt_parser_steps.specs.declared.error.ParseError.TheVariants as parse_error;
 ghost use Rattle.std.specs.Prelude.{◌≡◌};
 
-use kt_grammar::ParseError;
+use crate::error::ParseError;
 
 /// Another token stands where a step has its own. The cursor keeps the place. Nothing else stops a step that takes no
 /// memory.

@@ -3,7 +3,8 @@
 ghost use Rattle.kt_grammar_parsers.specs.Parsers as parsers;
 ghost use Rattle.kt_grammar_parsers.specs.Parsers.{cursor, further};
 ghost use Rattle.kt_grammar.specs.Terminals as spec;
-ghost use Rattle.kt_grammar.specs.Terminals.{Meaning, is_of};
+ghost use Rattle.kt_grammar.specs.Terminals.{Meaning};
+ghost use Rattle.kt_parser_steps.specs.Classes.{is_of};
 ghost use Rattle.kt_grammar.specs.Readers as readers;
 ghost use Rattle.kt_tree.specs.Tokens.{is_identifier, is_keyword, is_sign, is_soft_keyword};
 ghost use Rattle.kt_parser_steps.specs.Steps.{EachMeans, Expects, Finds, Tries};
@@ -12,12 +13,13 @@ ghost use Rattle.std.specs.Prelude.{◌≡◌, IfOk};
 use crate::meanings::text_part;
 use crate::refused::Refused;
 use kt_base::{Name, NoMemory};
-use kt_grammar::{TokenClass, Tokens};
+use crate::classes::TokenClass;
+use crate::tokens::Tokens;
 use kt_tree::{Keyword, Sign, SoftKeyword, TextPart, Token, TokenKind};
 use std::alloc::Global;
 
 /// The next token, which is to be this sign.
-#[tactic(auto, using(kt_grammar::proofs::Turns::token_taken, kt_grammar::proofs::Turns::token_missed))]
+#[tactic(auto, using(crate::proofs::Turns::token_taken, crate::proofs::Turns::token_missed))]
 pub fn expect<'a>(tokens: &mut Tokens<'a>, sign: Sign) -> Result<&'a Token, Refused>
     ensures { Expects (λ token. token.now) (readers.expect sign tokens.old) result tokens.new }
 {
@@ -28,7 +30,7 @@ pub fn expect<'a>(tokens: &mut Tokens<'a>, sign: Sign) -> Result<&'a Token, Refu
 }
 
 /// The next token, which is to be an identifier.
-#[tactic(auto, using(kt_grammar::proofs::Turns::token_taken, kt_grammar::proofs::Turns::token_missed))]
+#[tactic(auto, using(crate::proofs::Turns::token_taken, crate::proofs::Turns::token_missed))]
 pub fn expect_identifier<'a>(tokens: &mut Tokens<'a>) -> Result<&'a Token, Refused>
     ensures { Expects (λ token. token.now) (parsers.token is_identifier tokens.old) result tokens.new }
 {
@@ -138,7 +140,7 @@ pub fn meant_text<'a>(tokens: &mut Tokens<'a>) -> Result<Option<(&'a Token, Text
 }
 
 /// The next token, which is to be this keyword.
-#[tactic(auto, using(kt_grammar::proofs::Turns::token_taken, kt_grammar::proofs::Turns::token_missed))]
+#[tactic(auto, using(crate::proofs::Turns::token_taken, crate::proofs::Turns::token_missed))]
 pub fn expect_keyword<'a>(tokens: &mut Tokens<'a>, keyword: Keyword) -> Result<&'a Token, Refused>
     ensures { Expects (λ token. token.now) (parsers.token (is_keyword keyword) tokens.old) result tokens.new }
 {
@@ -149,7 +151,7 @@ pub fn expect_keyword<'a>(tokens: &mut Tokens<'a>, keyword: Keyword) -> Result<&
 }
 
 /// The next token, which is to be spelled as this soft keyword.
-#[tactic(auto, using(kt_grammar::proofs::Turns::token_taken, kt_grammar::proofs::Turns::token_missed))]
+#[tactic(auto, using(crate::proofs::Turns::token_taken, crate::proofs::Turns::token_missed))]
 pub fn expect_soft_keyword<'a>(
     tokens: &mut Tokens<'a>,
     word: SoftKeyword,

@@ -11,7 +11,7 @@ use crate::meanings::{
     range_operator, step_operator, type_check, variable,
 };
 use crate::steps::meant;
-use kt_grammar::Tokens;
+use crate::tokens::Tokens;
 use kt_tree::{
     AssignmentOperator, BinaryOperator, Literal, PrefixOperator, RangeOperator, StepOperator, Token,
 };

@@ -1,7 +1,8 @@
 //! Lists of tokens: expressions and statements with how many tokens are left, and refusals with their place.
 
 use kt_base::{Name, Pos};
-use kt_grammar::{Context, ParseError, Tokens};
+use kt_grammar::Context;
+use kt_parser_steps::{ParseError, Tokens};
 use kt_parser_statements::{Precedence, read_expression, read_statement};
 use kt_tree::{Keyword, Number, Sign, Token, TokenKind};
 use std::alloc::Global;

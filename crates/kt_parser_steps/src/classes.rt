@@ -1,7 +1,7 @@
 //! Classes of tokens that productions ask for, beside single signs and words.
 
 ghost use Rattle.kt_grammar.specs.Terminals as spec;
-ghost use Rattle.kt_grammar.specs.Terminals.{is_of};
+ghost use Rattle.kt_parser_steps.specs.Classes.{is_of};
 ghost use Rattle.std.specs.Prelude.{◌≡◌};
 
 use kt_tree::{Keyword, Sign, Token, TokenKind};

@@ -1,6 +1,6 @@
 //! Why a production wasn't read.
 
-ghost use Rattle.kt_grammar.specs.declared.error.ParseError.TheVariants as parse_error;
+ghost use Rattle.kt_parser_steps.specs.declared.error.ParseError.TheVariants as parse_error;
 ghost use Rattle.std.specs.Prelude.{◌≡◌};
 
 use kt_base::NoMemory;

@@ -1,7 +1,7 @@
 -- What a call of the cursor says of the step that it is.
 use Rattle.std.proofs.Common.{◌≡◌, Bool, false, List, [], ◌∷◌, Some, None, Ok, Err, refl, sym, ap, ◌∙◌}
 use Rattle.kt_grammar_parsers.specs.Parsers.{Cursor, Parser, cursor, further, first, token, on}
-use Rattle.kt_grammar.specs.Cursors.{Turned}
+use Rattle.kt_parser_steps.specs.Cursors.{Turned}
 
 no_turn : {T B : Type 0} (test : T → Bool) (go : T → Parser T B) (other : Parser T B) (ts far : List T) → first test ts ≡ false → on test go other (cursor ts far) ≡ other (cursor ts (further ts far))
 unfolding on

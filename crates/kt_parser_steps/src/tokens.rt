@@ -1,9 +1,10 @@
 //! A cursor over tokens, which keeps the furthest token that was examined in vain.
 
-ghost use Rattle.kt_grammar.specs.Cursors.{Turned};
+ghost use Rattle.kt_parser_steps.specs.Cursors.{Turned};
 ghost use Rattle.kt_grammar_parsers.specs.Parsers as spec;
 ghost use Rattle.kt_grammar_parsers.specs.Parsers.{behind, cursor, further};
-ghost use Rattle.kt_grammar.specs.Terminals.{is_of, is_separator};
+ghost use Rattle.kt_grammar.specs.Terminals.{is_separator};
+ghost use Rattle.kt_parser_steps.specs.Classes.{is_of};
 ghost use Rattle.kt_tree.specs.Tokens.{is_identifier, is_keyword, is_new_line, is_sign, is_soft_keyword};
 ghost use Rattle.std.specs.Prelude.{◌≡◌, ◌+◌, ◌<◌, ◌∷◌, length, Ok};
 ghost use Rattle.std.specs.Option.{option_copied};

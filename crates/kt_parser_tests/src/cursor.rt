@@ -1,7 +1,7 @@
 //! Each call of the cursor once.
 
-use crate::tokens::Tokens;
 use kt_base::{Name, Pos};
+use kt_parser_steps::Tokens;
 use kt_tree::{Keyword, Sign, SoftKeyword, Token, TokenKind};
 use std::alloc::Global;
 use std::test::Fail;
