@@ -46,7 +46,7 @@ abbrev pub part_of : ℕ → Parser Token ExpressionTree → Parser Token PartTr
 part_of left expression = on_if (some_levels left) is_name_part (λ t. pure (e.name_part (name_of t)))
     (on_if (some_levels left) is_this_part (λ _. pure e.this_part)
     (on_if (some_levels left) is_open_template
-        (λ _. lines >> (expression >>= (λ a. lines >> (expect sign.CloseBrace >> pure (e.hole a)))))
+    (λ _. lines >> (expression >>= (λ a. lines >> (expect sign.CloseBrace >> pure (e.hole a)))))
     (meant text_of >>= (λ t. pure (e.text t.1)))))
 
 abbrev pub parameter_of : ℕ → Parser Token ParameterTree
@@ -106,7 +106,7 @@ module _ (room : ℕ) (below : Parsers) (at : Context) where
   if_rest t = expect sign.OpenParenthesis
       >> (below.disjunction at >>= (λ a. expect sign.CloseParenthesis >> (lines >> (below.body at >>= (λ b.
       attempt else_word (λ _. below.body at >>= (λ c. pure (e.if_else t.pos a b (e.some_body c))))
-          (pure (e.if_else t.pos a b e.no_body)))))))
+      (pure (e.if_else t.pos a b e.no_body)))))))
 
   abbrev pub subject : Parser Token (Option ExpressionTree)
   subject = on_if deep (is_sign sign.OpenParenthesis)
@@ -136,8 +136,8 @@ module _ (room : ℕ) (below : Parsers) (at : Context) where
   abbrev pub try_rest : Token → Parser Token ExpressionTree
   try_rest t = lines >> (block_of (below.statement at) >>= (λ b. repeat catch_turn [] >>= (λ cs.
       attempt finally_head
-          (λ _. block_rest (below.statement at) >>= (λ f. pure (e.try_catch t.pos b (catches_of cs) (e.some_block f))))
-          (no_finally t.pos b cs))))
+      (λ _. block_rest (below.statement at) >>= (λ f. pure (e.try_catch t.pos b (catches_of cs) (e.some_block f))))
+      (no_finally t.pos b cs))))
 
   abbrev pub primary : Parser Token ExpressionTree
   primary = on_if deep (is_sign sign.OpenParenthesis)
@@ -145,9 +145,9 @@ module _ (room : ℕ) (below : Parsers) (at : Context) where
       (on_if deep (is_keyword word.If) if_rest
       (on_if deep (is_keyword word.Throw) (λ t. below.disjunction at >>= (λ a. pure (e.throw t.pos a)))
       (on_if (not at.in_lambda) (is_keyword word.Return)
-          (λ t. where_next begins_expression
-          (below.disjunction at >>= (λ a. pure (e.return t.pos (e.some_expression a))))
-          (pure (e.return t.pos e.no_expression)))
+      (λ t. where_next begins_expression
+      (below.disjunction at >>= (λ a. pure (e.return t.pos (e.some_expression a))))
+      (pure (e.return t.pos e.no_expression)))
       (on_if at.in_loop (is_keyword word.Break) (λ t. pure (e.break t.pos))
       (on_if at.in_loop (is_keyword word.Continue) (λ t. pure (e.continue t.pos))
       (on (is_sign sign.OpenBrace) lambda_rest

@@ -30,7 +30,7 @@ IsPart left Expression =
     Either (If (some_levels left) (Seq (IsToken is_name_part) (λ t. Gives (e.name_part (name_of t)))) Empty)
     (Either (If (some_levels left) (Seq (IsToken is_this_part) (λ _. Gives e.this_part)) Empty)
     (Either (Seq (IsToken is_open_template)
-        (λ _. Seq (IsPast Expression) (λ a. Seq (IsPast (IsSign sign.CloseBrace)) (λ _. Gives (e.hole a)))))
+    (λ _. Seq (IsPast Expression) (λ a. Seq (IsPast (IsSign sign.CloseBrace)) (λ _. Gives (e.hole a)))))
     (Seq (IsMeant text_of) (λ t. Gives (e.text t.1)))))
 
 -- ---- lambda literals
@@ -109,7 +109,7 @@ module _ (room : ℕ) (below : Phrases) (at : Context) where
       (λ t. Seq (IsSign sign.OpenParenthesis)
       (λ _. Seq (below.disjunction at) (λ a. Seq (IsSign sign.CloseParenthesis) (λ _. Seq (IsPast (below.body at)) (λ b.
       Where IsElse (λ _. Seq (below.body at) (λ c. Gives (e.if_else t.pos a b (e.some_body c))))
-          (Gives (e.if_else t.pos a b e.no_body)))))))
+      (Gives (e.if_else t.pos a b e.no_body)))))))
 
   -- ('(' expr ')')?
   abbrev pub IsSubject : Option ExpressionTree → List Token → List Token → Type 0
@@ -147,7 +147,7 @@ module _ (room : ℕ) (below : Phrases) (at : Context) where
   IsTry = Seq (IsKeyword word.Try)
       (λ t. Seq (IsPast (IsBlock (below.statement at))) (λ b. Seq (Loop CatchTurn []) (λ cs.
       Where IsFinallyHead (λ _. Seq (IsBlockRest (below.statement at))
-          (λ f. Gives (e.try_catch t.pos b (catches_of cs) (e.some_block f)))) (IsNoFinally t.pos b cs))))
+      (λ f. Gives (e.try_catch t.pos b (catches_of cs) (e.some_block f)))) (IsNoFinally t.pos b cs))))
 
   -- 'throw' expr
   abbrev pub IsThrow : ExpressionTree → List Token → List Token → Type 0

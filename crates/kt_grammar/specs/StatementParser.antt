@@ -63,7 +63,7 @@ module _ (room : ℕ) (below : Parsers) (at : Context) where
       >>= (λ name. token (is_keyword word.In)
       >> (below.additive at >>= (λ a. meant range_of >>= (λ o. below.additive at >>= (λ b.
       expect sign.CloseParenthesis
-          >> (lines >> (below.body (in_loop at) >>= (λ body. pure (e.for t.pos (name_of name) a o.1 b body))))))))))
+      >> (lines >> (below.body (in_loop at) >>= (λ body. pure (e.for t.pos (name_of name) a o.1 b body))))))))))
 
   -- no statement begins with `{`
   abbrev pub statement_parser : Parser Token StatementTree

@@ -40,7 +40,7 @@ module _ (room : ℕ) (below : Phrases) (at : Context) where
       (λ a. WhereRoom (is_target a && x.has_more room below at a) (IsMeant assignment_of)
       (λ o. Seq (IsPast (below.disjunction at)) (λ b. Gives (e.assign (place a) a o.1 b)))
       (WhereRoom (is_target a && x.has_more room below at a) (IsMeant step_of) (λ o. Gives (e.step (place a) a o.1))
-          (Gives (e.evaluate (place a) a))))
+      (Gives (e.evaluate (place a) a))))
 
   -- 'while' '(' expr ')' n body
   abbrev pub IsWhile : StatementTree → List Token → List Token → Type 0
@@ -66,7 +66,7 @@ module _ (room : ℕ) (below : Phrases) (at : Context) where
       (λ name. Seq (IsKeyword word.In)
       (λ _. Seq (below.additive at) (λ a. Seq (IsMeant range_of) (λ o. Seq (below.additive at) (λ b.
       Seq (IsSign sign.CloseParenthesis)
-          (λ _. Seq (IsPast (below.body (in_loop at))) (λ body. Gives (e.for t.pos (name_of name) a o.1 b body))))))))))
+      (λ _. Seq (IsPast (below.body (in_loop at))) (λ body. Gives (e.for t.pos (name_of name) a o.1 b body))))))))))
 
   -- stmt : ('val' | 'var') .. | target .. | 'while' .. | 'do' .. | 'for' .. | expr
   -- No statement begins with `{`.

@@ -184,7 +184,7 @@ abbrev pub infix_of : Meaning BinaryOperator
 infix_of = means (is_soft_keyword soft.And) binary.And
     (means (is_soft_keyword soft.Or) binary.Or (means (is_soft_keyword soft.Xor) binary.Xor
     (means (is_soft_keyword soft.Shl) binary.Shl
-        (means (is_soft_keyword soft.Shr) binary.Shr (means (is_soft_keyword soft.Ushr) binary.Ushr nothing)))))
+    (means (is_soft_keyword soft.Shr) binary.Shr (means (is_soft_keyword soft.Ushr) binary.Ushr nothing)))))
 
 abbrev pub additive_of : Meaning BinaryOperator
 additive_of = means (is_sign sign.Plus) binary.Plus (means (is_sign sign.Minus) binary.Minus nothing)
@@ -216,8 +216,8 @@ abbrev pub assignment_of : Meaning AssignmentOperator
 assignment_of = means (is_sign sign.Assign) assignment.Set
     (means (is_sign sign.PlusAssign) assignment.Add (means (is_sign sign.MinusAssign) assignment.Subtract
     (means (is_sign sign.TimesAssign) assignment.Multiply
-        (means (is_sign sign.DivideAssign) assignment.Divide
-        (means (is_sign sign.RemainderAssign) assignment.Remainder nothing)))))
+    (means (is_sign sign.DivideAssign) assignment.Divide
+    (means (is_sign sign.RemainderAssign) assignment.Remainder nothing)))))
 
 abbrev pub step_of : Meaning StepOperator
 step_of = means (is_sign sign.Increment) step.Increment (means (is_sign sign.Decrement) step.Decrement nothing)

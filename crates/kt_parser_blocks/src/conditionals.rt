@@ -11,7 +11,10 @@ ghost use Rattle.std.specs.Prelude.{map, option_map};
 use crate::below::{Below, Precedence};
 use kt_base::Pos;
 use kt_grammar::Context;
-use kt_parser_steps::{Lead, ParseError, Refused, TokenClass, Tokens, beside, class_ahead, expect, expect_keyword, part_if, separated, several, sign_if, take_type_check};
+use kt_parser_steps::{
+    Lead, ParseError, Refused, TokenClass, Tokens, beside, class_ahead, expect, expect_keyword,
+    part_if, separated, several, sign_if, take_type_check,
+};
 use kt_parser_types::read_type;
 use kt_tree::{
     ControlStructureBody, Expression, Keyword, Sign, Statement, Token, WhenCondition, WhenEntry,

@@ -11,7 +11,10 @@ ghost use Rattle.std.specs.Prelude.{map};
 
 use crate::below::{Below, Precedence};
 use kt_grammar::Context;
-use kt_parser_steps::{Lead, ParseError, TokenClass, Tokens, attempt_if, beside, expect, expect_identifier, name_of, separated, several};
+use kt_parser_steps::{
+    Lead, ParseError, TokenClass, Tokens, attempt_if, beside, expect, expect_identifier, name_of,
+    separated, several,
+};
 use kt_parser_types::annotation;
 use kt_tree::{Block, ControlStructureBody, Expression, LambdaParameter, Sign, Statement, Token};
 use kt_tree_nodes::blocks::{block, braces, single};

@@ -12,7 +12,10 @@ ghost use Rattle.std.specs.Prelude.{map};
 use crate::below::{Below, Precedence};
 use kt_base::Name;
 use kt_grammar::Context;
-use kt_parser_steps::{ParseError, Refused, Tokens, Turn, beside, expect, expect_identifier, expect_soft_keyword, name_of, part_if, repeat};
+use kt_parser_steps::{
+    ParseError, Refused, Tokens, Turn, beside, expect, expect_identifier, expect_soft_keyword,
+    name_of, part_if, repeat,
+};
 use kt_parser_types::read_type;
 use kt_tree::{Block, CatchBlock, Expression, Sign, SoftKeyword, Statement, Token};
 use kt_tree_nodes::blocks::catch;

@@ -19,7 +19,9 @@ use crate::levels::{expression, parent};
 use crate::lists::{members, supertypes};
 use crate::modifiers::Opening;
 use crate::parameters::{constructor_parameters, type_parameters, typed_parameter};
-use kt_parser_steps::{ParseError, Tokens, expect, expect_identifier, maybe_comma_list, name_of, take_variable};
+use kt_parser_steps::{
+    ParseError, Tokens, expect, expect_identifier, maybe_comma_list, name_of, take_variable,
+};
 use kt_tree::{
     ClassDeclaration, ClassMember, ClassModifiers, Expression, FunctionDeclaration,
     InterfaceDeclaration, PropertyDeclaration, Sign, SuperArguments, Supertype, Token,

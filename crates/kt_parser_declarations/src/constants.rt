@@ -8,7 +8,10 @@ ghost use Rattle.kt_tree.specs.Declarations.{constant_tree, declaration_tree};
 ghost use Rattle.std.specs.Prelude.{◌≡◌, map, Ok};
 
 use crate::levels::annotation;
-use kt_parser_steps::{Lead, ParseError, TokenClass, Tokens, Turn, expect, expect_identifier, expect_keyword, meant_text, name_of, repeat, several, take_literal};
+use kt_parser_steps::{
+    Lead, ParseError, TokenClass, Tokens, Turn, expect, expect_identifier, expect_keyword,
+    meant_text, name_of, repeat, several, take_literal,
+};
 use kt_tree::{
     ConstantDeclaration, ConstantValue, Declaration, EnumEntry, Keyword, Sign, TextPart, Token,
 };

@@ -9,7 +9,9 @@ ghost use Rattle.kt_tree.specs.declared.tokens.Token.{Token};
 ghost use Rattle.std.specs.Prelude.{IfOk, map};
 
 use kt_base::NoMemory;
-use kt_parser_steps::{Lead, Node, ParseError, TokenClass, Tokens, attempt_if, expect, separated, several};
+use kt_parser_steps::{
+    Lead, Node, ParseError, TokenClass, Tokens, attempt_if, expect, separated, several,
+};
 use kt_tree::{Sign, Token};
 use sqlite_items::Items;
 use std::alloc::Global;

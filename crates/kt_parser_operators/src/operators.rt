@@ -10,7 +10,10 @@ ghost use Rattle.std.specs.Prelude.{◌≡◌};
 
 use kt_grammar::Context;
 use kt_parser_blocks::{Below, Precedence};
-use kt_parser_steps::{BinaryLevel, ParseError, Tokens, Turn, beside, repeat, take_binary_operator, take_cast, take_prefix_operator, take_type_check};
+use kt_parser_steps::{
+    BinaryLevel, ParseError, Tokens, Turn, beside, repeat, take_binary_operator, take_cast,
+    take_prefix_operator, take_type_check,
+};
 use kt_parser_types::read_type;
 use kt_tree::{BinaryOperator, Expression, PrefixOperator, Statement, Token};
 use kt_tree_nodes::expressions::{binary, cast, prefix, type_check};

@@ -16,7 +16,10 @@ use crate::operators::Operators;
 use kt_grammar::Context;
 use kt_parser_blocks::Precedence;
 use kt_parser_primaries::Primaries;
-use kt_parser_steps::{ParseError, TokenClass, Tokens, Turn, attempt_if, beside, class_ahead, class_ahead_if, expect, expect_identifier, maybe_comma_list, name_of, repeat, sign_ahead, sign_if, take_member};
+use kt_parser_steps::{
+    ParseError, TokenClass, Tokens, Turn, attempt_if, beside, class_ahead, class_ahead_if, expect,
+    expect_identifier, maybe_comma_list, name_of, repeat, sign_ahead, sign_if, take_member,
+};
 use kt_parser_types::type_arguments;
 use kt_tree::{Expression, ExpressionKind, Sign, Statement, TypeReference};
 use kt_tree_nodes::expressions::{call, index, member, not_null};

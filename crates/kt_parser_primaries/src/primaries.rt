@@ -7,7 +7,10 @@ ghost use Rattle.kt_parser_primaries.specs.Rules as rules;
 
 use kt_grammar::Context;
 use kt_parser_blocks::{Below, Precedence};
-use kt_parser_steps::{ParseError, TokenClass, Tokens, beside, class_ahead, expect, keyword_if, name_of, sign_if, take_literal};
+use kt_parser_steps::{
+    ParseError, TokenClass, Tokens, beside, class_ahead, expect, keyword_if, name_of, sign_if,
+    take_literal,
+};
 use kt_tree::{Expression, Keyword, Sign, Statement, Token};
 use kt_tree_nodes::expressions::{
     break_loop, continue_loop, literal, name, parenthesized, return_with, this, throw,

@@ -13,7 +13,9 @@ use crate::primaries::Primaries;
 use kt_base::Pos;
 use kt_grammar::Context;
 use kt_parser_blocks::Precedence;
-use kt_parser_steps::{ParseError, TokenClass, Tokens, Turn, beside, class_if, expect, meant_text, name_of, repeat};
+use kt_parser_steps::{
+    ParseError, TokenClass, Tokens, Turn, beside, class_if, expect, meant_text, name_of, repeat,
+};
 use kt_tree::{Expression, Sign, Statement, StringPart};
 use kt_tree_nodes::strings::{hole, name_part, template, text, this_part};
 use std::alloc::Global;

@@ -17,7 +17,11 @@ use kt_base::NoMemory;
 use kt_grammar::Context;
 use kt_parser_blocks::{Below, Precedence};
 use kt_parser_operators::Operators;
-use kt_parser_steps::{ParseError, Refused, Tokens, beside, expect, expect_identifier, expect_keyword, keyword_if, name_of, sign_ahead, sign_if, take_assignment_operator, take_range_operator, take_step_operator, take_variable};
+use kt_parser_steps::{
+    ParseError, Refused, Tokens, beside, expect, expect_identifier, expect_keyword, keyword_if,
+    name_of, sign_ahead, sign_if, take_assignment_operator, take_range_operator,
+    take_step_operator, take_variable,
+};
 use kt_parser_types::annotation;
 use kt_tree::{
     AssignmentOperator, ControlStructureBody, Expression, ExpressionKind, Keyword, RangeOperator,

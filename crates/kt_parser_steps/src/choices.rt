@@ -9,13 +9,13 @@ ghost use Rattle.kt_tree.specs.Tokens.{is_keyword, is_sign, is_soft_keyword};
 ghost use Rattle.std.specs.Option.{option_copied};
 ghost use Rattle.std.specs.Prelude.{IfOk};
 
+use crate::classes::TokenClass;
+use crate::error::ParseError;
 use crate::node::Node;
 use crate::refused::Refused;
 use crate::steps::class_ahead;
-use kt_base::NoMemory;
-use crate::error::ParseError;
-use crate::classes::TokenClass;
 use crate::tokens::Tokens;
+use kt_base::NoMemory;
 use kt_tree::{Keyword, Sign, SoftKeyword, Token};
 
 /// Takes the next token where this sign is allowed, and is it.

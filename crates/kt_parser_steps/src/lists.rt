@@ -11,14 +11,14 @@ ghost use Rattle.kt_tree.specs.declared.tokens.Token.{Token};
 ghost use Rattle.kt_tree.specs.Tokens.{is_new_line, is_sign};
 ghost use Rattle.std.specs.Prelude.{◌≡◌, map, Ok};
 
+use crate::classes::TokenClass;
+use crate::error::ParseError;
 use crate::loops::{Turn, repeat};
 use crate::node::Node;
 use crate::refused::Refused;
 use crate::steps::{class_ahead, expect};
-use kt_base::Pos;
-use crate::error::ParseError;
-use crate::classes::TokenClass;
 use crate::tokens::Tokens;
+use kt_base::Pos;
 use kt_tree::{Sign, Token};
 use sqlite_items::Items;
 use std::alloc::Global;

@@ -6,8 +6,8 @@ ghost use Rattle.kt_parser_steps.specs.Steps.{EachTurns, ReadsAs};
 ghost use Rattle.kt_tree.specs.declared.tokens.Token.{Token};
 ghost use Rattle.std.specs.Prelude.{◌⊎◌};
 
-use crate::node::Node;
 use crate::error::ParseError;
+use crate::node::Node;
 use crate::tokens::Tokens;
 
 /// What a turn of a loop gives.

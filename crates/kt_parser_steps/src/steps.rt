@@ -10,11 +10,11 @@ ghost use Rattle.kt_tree.specs.Tokens.{is_identifier, is_keyword, is_sign, is_so
 ghost use Rattle.kt_parser_steps.specs.Steps.{EachMeans, Expects, Finds, Tries};
 ghost use Rattle.std.specs.Prelude.{◌≡◌, IfOk};
 
+use crate::classes::TokenClass;
 use crate::meanings::text_part;
 use crate::refused::Refused;
-use kt_base::{Name, NoMemory};
-use crate::classes::TokenClass;
 use crate::tokens::Tokens;
+use kt_base::{Name, NoMemory};
 use kt_tree::{Keyword, Sign, SoftKeyword, TextPart, Token, TokenKind};
 use std::alloc::Global;
 

@@ -2,8 +2,8 @@
 
 use kt_base::{Name, Pos};
 use kt_grammar::Context;
-use kt_parser_steps::{ParseError, Tokens};
 use kt_parser_statements::{Precedence, read_expression, read_statement};
+use kt_parser_steps::{ParseError, Tokens};
 use kt_tree::{Keyword, Number, Sign, Token, TokenKind};
 use std::alloc::Global;
 use std::test::Fail;

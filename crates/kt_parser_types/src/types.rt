@@ -14,7 +14,10 @@ ghost use Rattle.kt_parser_types.specs.Below.{ReadsBelow, some_type, suspend_ahe
 ghost use Rattle.std.specs.Prelude.{◌≡◌, map};
 
 use kt_base::Name;
-use kt_parser_steps::{ParseError, Tokens, comma_list, expect, expect_identifier, maybe_comma_list, name_of, sign_ahead};
+use kt_parser_steps::{
+    ParseError, Tokens, comma_list, expect, expect_identifier, maybe_comma_list, name_of,
+    sign_ahead,
+};
 use kt_tree::{Sign, SoftKeyword, TypeReference};
 use kt_tree_nodes::types::{function, named, nullable, parenthesized};
 use sqlite_items::Items;
