@@ -19,7 +19,7 @@ use kt_tree_nodes::declarations as nodes;
 use sqlite_items::Items;
 use std::alloc::Global;
 
-/// An interface, behind this `interface`.
+/// `ID tparams? supers? functions?`, behind this `interface`.
 fn interface_declaration(
     alloc: Global,
     start: &Token,
@@ -31,7 +31,7 @@ fn interface_declaration(
     Ok(nodes::interface_declaration(interface))
 }
 
-/// A constant, behind this `const`.
+/// `'val' ID (':' type)? '=' n ('-'? literal | string)`, behind this `const`.
 fn constant_declaration(
     alloc: Global,
     start: &Token,
@@ -43,7 +43,7 @@ fn constant_declaration(
     Ok(nodes::constant_declaration(constant))
 }
 
-/// A class, behind its modifiers and `class`.
+/// `ID tparams? cparams? supers? members?`, behind the modifiers of a class and `class`.
 fn class_declaration(
     alloc: Global,
     opening: Opening<ClassModifiers>,

@@ -97,7 +97,7 @@ impl<M: Copy> Modified<M> {
 
 // ---- functions
 
-/// `fun`, behind its modifiers.
+/// `'fun'`, behind its modifiers.
 fn fun_turn(
     so_far: Modified<FunctionModifiers>,
     tokens: &mut Tokens<'_>,
@@ -172,7 +172,7 @@ pub(crate) fn fun_word(tokens: &mut Tokens<'_>) -> Result<Opening<FunctionModifi
 
 // ---- classes
 
-/// `class`, behind its modifiers.
+/// `'class'`, behind its modifiers.
 fn class_keyword_turn(
     so_far: Modified<ClassModifiers>,
     tokens: &mut Tokens<'_>,
