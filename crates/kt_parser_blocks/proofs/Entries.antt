@@ -15,7 +15,7 @@ use Rattle.kt_grammar.specs.StatementParser as s
 use Rattle.kt_grammar.specs.StatementParser.{parsers, refused_if}
 use Rattle.kt_parser_steps.specs.Steps.{given, place_of}
 use Rattle.kt_parser_steps.proofs.SeparatedItems.{placed_ok, placed_err}
-use Rattle.kt_parser_steps.proofs.Ways.{has_more}
+use Rattle.kt_parser_steps.proofs.Ways.{levels_left}
 use Rattle.kt_parser_blocks.specs.Rules as rules
 use Rattle.kt_parser_blocks.proofs.Depth.{levels_are, above}
 
@@ -51,7 +51,7 @@ module _ (n m : ℕ) (h : m + 1 ≡ n) (at : Context) (c : Cursor Token) where
   -- where a level is left for its body
   pub entry_over : (subject : Bool) → 0 < m → (parsers n).entry at subject c ≡ rules.entry m at subject c
   entry_over subject deep = ap (λ (z : Parsers). z.entry at subject c) (above n m h)
-      ∙ ap (λ (b : Bool). refused_if (not b) (rules.entry m at subject) c) (ap some_levels (levels_are m) ∙ has_more m deep)
+      ∙ ap (λ (b : Bool). refused_if (not b) (rules.entry m at subject) c) (ap some_levels (levels_are m) ∙ levels_left m deep)
 
 -- ---- a `when` up to its `{`
 
