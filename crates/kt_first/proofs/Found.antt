@@ -3,7 +3,7 @@ use Rattle.std.proofs.Common.{◌≡◌, ℕ, true, false, Bool, List, length, O
 use Rattle.std.specs.Prelude.{option_map, nat_le, ◌≤◌, MatchResult, Vec, if◌then◌else◌}
 use Rattle.std.specs.Result.{IfOk, IsErr, IsErrAnd}
 use Rattle.std.specs.declared.alloc.Global.{Global}
-use borrow.Author.Tests.{le-leb}
+use Rattle.std.proofs.lemmas.Bool.{le-leb, leb-true}
 use Rattle.kt_base.specs.declared.refusals.FrontErr.{FrontErr}
 use Rattle.kt_base.specs.declared.refusals.FrontErr.TheVariants as front_err
 use Rattle.kt_base.specs.declared.stack_code.Plain.{Plain}
@@ -66,17 +66,20 @@ ProgramOf text code = (p : Program) × IsFirst text p × (code ≡ code_of p)
 code_of_short : (text : List ℕ) (tokens : List Token) (file : List DeclarationTree) (code : List Plain) → Read text tokens file
     → begins_with_head tokens ≡ true → (p : Program) → program_of_file file ≡ Some p
     → (b : Bool) → nat_le (length (code_of p)) 512 ≡ b → (if b then Some (code_of p) else None) ≡ Some code → ProgramOf text code
-code_of_short text tokens file code x head p program true steps is =
-    (p, record
-        { short = x.short
-        ; tokens = tokens
-        ; has_tokens = x.has_tokens
-        ; head = head
-        ; file = file
-        ; is_file = x.is_file
-        ; program = program
-        ; steps = leb-true _ _ steps
-        }, (let same : Some (code_of p) ≡ Some code = is in cc))
+code_of_short text tokens file code x head p program true steps is = (
+  p,
+  record {
+    short = x.short;
+    tokens = tokens;
+    has_tokens = x.has_tokens;
+    head = head;
+    file = file;
+    is_file = x.is_file;
+    program = program;
+    steps = leb-true _ _ steps;
+  },
+  (let same : Some (code_of p) ≡ Some code = is in cc),
+)
 code_of_short text tokens file code x head p program false steps is = absurd (let none : None ≡ Some code = is in cc)
 
 code_of_one : (text : List ℕ) (tokens : List Token) (file : List DeclarationTree) (code : List Plain) → Read text tokens file

@@ -22,9 +22,9 @@ use Rattle.kt_parser.proofs.Files.{is_file, refused_here}
 -- each index has a place
 place_at : (ts : List Token) (at : ℕ) → ends_alone ts ≡ true → (place : Pos) × IsPlaceAt ts at place
 place_at [] at alone = absurd cc
-place_at (t ∷ ts) at alone = (_, _, slice_get-get_or (t ∷ ts) (min at (length ts)) t (omega (arith, last)), refl)
-  where
-    last = min-le_right at (length ts)
+place_at (t ∷ ts) at alone =
+    let last = length (t ∷ ts) - 1 in
+    (_, (_, slice_get-get_or (t ∷ ts) (min at last) t (omega (arith, min-le_right at last)), refl))
 
 -- tokens that are a file, or that are refused
 abbrev Parsed : List Token → Type 0
@@ -39,7 +39,7 @@ parsed_or_refused ts (Err k) alone e =
 
 of_tokens : (source : List ℕ) (ts : List Token) → AreTokensOfSource source ts → Parsed ts
     → HasTree source ⊎ ((r : Refusal) × IsRefused source r)
-of_tokens source ts are (inl file) = inl (file.0, ts, are, file.1)
+of_tokens source ts are (inl file) = inl (file.0, (ts, are, file.1))
 of_tokens source ts are (inr refused) = inr (refused.0, inr (ts, are, refused.1))
 
 of_source : (source : List ℕ) → ((ts : List Token) × AreTokensOfSource source ts) ⊎ ((r : Refusal) × IsSourceRefused source r)

@@ -1,5 +1,5 @@
 -- What the clauses of a run stand on.
-use Rattle.std.proofs.Common.{◌≡◌, ◌≤◌, ℕ, ℤ, List, [], ◌∷◌, ◌++◌, length, map, Some, Result, Ok, Err, refl, sym, ap, ◌∙◌}
+use Rattle.std.proofs.Common.{◌≡◌, ◌≤◌, ℕ, ℤ, List, [], ◌∷◌, ◌++◌, length, map, Option, None, Some, inl, inr, Result, Ok, Err, refl, sym, ap, ◌∙◌}
 use Rattle.std.proofs.Math.ListN.{replicate}
 use Rattle.kt_base.specs.declared.stack_code.Plain.{Plain}
 use Rattle.kt_base.specs.declared.events.End.TheVariants as end
@@ -10,11 +10,11 @@ use Rattle.kt_first.specs.Trees.{IsFirst}
 use Rattle.std.specs.Prelude.{is_some}
 use Rattle.std.specs.Result.{IfOk}
 use Rattle.jvm_class_first.specs.Instructions.{IsPlainCode}
-use Rattle.kt_outside.specs.Held.{Contents}
+use Rattle.kt_outside.specs.Held.{Contents, file_in, Holds, Lacks}
 use Rattle.ktrun.specs.declared.running.Stop.{Stop}
 use Rattle.ktrun.specs.declared.running.Finished.{Finished}
 use Rattle.ktrun.specs.FirstRuns.{Ends, text_of, numbers}
-use Rattle.ktrun.specs.Statuses.{Told, Ran}
+use Rattle.ktrun.specs.Headline.{HasSource, Ran}
 use Rattle.ktrun.proofs.Worlds.{onto, prints_all, finishes, writes}
 
 -- a choice for each value
@@ -54,7 +54,18 @@ run_ends source p is choices text written chosen =
 pub told : {old new now : List ℕ} (bytes : List ℕ) → new ≡ old ++ bytes → old ≡ [] → now ≡ new → bytes ≡ now
 told {old} {new} {now} bytes read empty same = sym (same ∙ read ∙ ap (λ l. l ++ bytes) empty)
 
-pub read_ran : (contents : Contents) (name source : List ℕ) (r : Result Finished Stop) → Told contents name source
+source_by : (contents : Contents) (name source : List ℕ) → ((bytes : List ℕ) → Holds contents name bytes → bytes ≡ source)
+    → (Lacks contents name → ⊥) → (o : Option (Option (List ℕ))) → file_in contents name ≡ o → HasSource contents name source
+source_by contents name source whole there None is = inr is
+source_by contents name source whole there (Some None) is = absurd (there is)
+source_by contents name source whole there (Some (Some bytes)) is = inl (is ∙ ap (λ l. Some (Some l)) (whole bytes is))
+
+-- a file that was read has the source that was read
+pub has_source : (contents : Contents) (name source : List ℕ) → ((bytes : List ℕ) → Holds contents name bytes → bytes ≡ source)
+    → (Lacks contents name → ⊥) → HasSource contents name source
+has_source contents name source whole there = source_by contents name source whole there _ refl
+
+pub read_ran : (contents : Contents) (name source : List ℕ) (r : Result Finished Stop) → HasSource contents name source
     → IfOk r (λ run. Ends source run.choices.items run.text.items [] 0) → IfOk r (λ run. Ran contents name run.choices.items run.text.items)
-read_ran contents name source (Ok run) told ends = (source, told, ends)
-read_ran contents name source (Err stop) told ends = tt
+read_ran contents name source (Ok run) has ends = (source, has, ends)
+read_ran contents name source (Err stop) has ends = tt

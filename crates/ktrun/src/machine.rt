@@ -1,6 +1,7 @@
 //! The machine that runs the code of the first programs.
 
-ghost use Rattle.std.specs.Prelude.{◌≡◌, ◌<◌, ◌∷◌, List, ℤ, ◌+◌, Some, length, reverse, IfOk, OnOk, IsSome};
+ghost use Rattle.std.specs.Prelude.{◌≡◌, ◌<◌, ◌+◌, ℤ, List, ◌∷◌, length, reverse};
+ghost use Rattle.std.specs.Prelude.{Some, IsSome, IfOk, OnOk};
 ghost use Rattle.kt_base.specs.StackCode.{stepped, Prints};
 ghost use Rattle.ktrun.specs.FirstRuns.{text_of};
 

@@ -1,7 +1,8 @@
 //! `ktrun` compiles and runs programs of a subset of Kotlin.
 #![tactic(auto)]
 
-ghost use Rattle.ktrun.specs.Statuses.{TookOrFailed, status_line};
+ghost use Rattle.ktrun.specs.Headline.{Tells, stream};
+ghost use Rattle.ktrun.specs.Statuses.{no_memory, status_line, usage};
 ghost use Rattle.std.specs.Prelude.{◌≡◌, ◌≢◌, []};
 
 mod machine;
@@ -36,9 +37,9 @@ fn main(rt: HostRuntime) -> ExitCode {
 
 /// The status where the words can't be had: memory was refused, or one of them isn't text.
 fn refuse<E: Sink>(err: &mut E, kind: ErrorKind) -> u8
-    ensures no_memory { kind ≡ ErrorKind.OutOfMemory → result ≡ 6 }
-    ensures usage { kind ≢ ErrorKind.OutOfMemory → result ≡ 2 }
-    ensures line { TookOrFailed (E.taken err.old) (E.taken err.new) (E.faults err.old) (E.faults err.new)
+    ensures no_memory { kind ≡ ErrorKind.OutOfMemory → result ≡ no_memory }
+    ensures usage { kind ≢ ErrorKind.OutOfMemory → result ≡ usage }
+    ensures line { Tells (stream (E.taken err.old) (E.faults err.old)) (stream (E.taken err.new) (E.faults err.new))
         (status_line result []) }
 {
     let status = match kind {

@@ -3,11 +3,11 @@
 ghost use Rattle.std.specs.Prelude.{◌≡◌, ◌≢◌, ℤ, List, [], map, Err, IfOk};
 ghost use Rattle.kt_base.specs.StackCode.{Prints};
 ghost use Rattle.jvm_class_first.specs.Instructions.{IsPlainCode};
-ghost use Rattle.kt_outside.specs.Faults.{MayAdd, Adds};
+ghost use Rattle.kt_outside.specs.Faults.{Adds};
 ghost use Rattle.kt_base.specs.declared.refusals.Refusal.{Refusal};
 ghost use Rattle.kt_parser.specs.Refusals.{IsRefused};
 ghost use Rattle.ktrun.specs.FirstRuns.{Ends, text_of};
-ghost use Rattle.ktrun.specs.Statuses.{Ran, IsForeign, HoldsForeign, HoldsRefused};
+ghost use Rattle.ktrun.specs.Headline.{Ran, IsForeign, HoldsForeign, HoldsRefused};
 
 use crate::machine::{printed_by, text_of};
 use jvm_class_first::{PlainErr, read_plain, write_plain};
@@ -94,7 +94,6 @@ pub fn run_file<F: Files>(alloc: Global, name: &str, files: &mut F) -> Result<Fi
     ensures no_read_fault { result ≢ Err Stop.ReadFault → F.read_faults files.new ≡ F.read_faults files.old }
     ensures not_built { result ≡ Err Stop.NotBuilt → HoldsForeign (F.held files.old) name.now }
     ensures refused { (r : Refusal) → result ≡ Err (Stop.Refused r) → HoldsRefused (F.held files.old) name.now r }
-    ensures reads_no_other { MayAdd name.now (F.read_faults files.old) (F.read_faults files.new) }
     ensures files_stay { F.held files.new ≡ F.held files.old }
     ensures no_put { F.put_faults files.new ≡ F.put_faults files.old }
 {

@@ -21,16 +21,16 @@ pub const USAGE: u8 = 2;
 pub const NO_MEMORY: u8 = 6;
 
 /// A file can't be read.
-pub const READ_FAULT: u8 = 7;
+pub const CANNOT_READ: u8 = 7;
 
 /// The output can't be written.
-pub const WRITE_FAULT: u8 = 8;
+pub const CANNOT_WRITE: u8 = 8;
 
 /// The text is a file of the language, and isn't in the part of it that is run today.
 pub const NOT_BUILT: u8 = 11;
 
-/// Writes the line of a status, or answers that the stream failed when it had taken a prefix. What is told is the refusal of a
-/// text, or the name of a file that can't be read.
+/// Writes the line of a status, or answers that the stream failed when it had taken a prefix. What is told is the refusal
+/// of a text, or the name of a file that can't be read.
 pub fn write_line<E: Sink>(err: &mut E, status: u8, told: &str) -> Result<(), Failed>
     ensures all { OnOk result (Appends (E.taken err.old) (E.taken err.new) (status_line status told.now)) }
     ensures failed { OnErr result (Rose (E.faults err.old) (E.faults err.new)) }
@@ -39,11 +39,11 @@ pub fn write_line<E: Sink>(err: &mut E, status: u8, told: &str) -> Result<(), Fa
         REFUSED => write_text_line(err, told),
         USAGE => write_all(err, b"ktrun: usage\n"),
         NO_MEMORY => write_all(err, b"ktrun: out of memory\n"),
-        READ_FAULT => {
+        CANNOT_READ => {
             write_all(err, b"ktrun: cannot read ")?;
             write_text_line(err, told)
         }
-        WRITE_FAULT => write_all(err, b"ktrun: cannot write\n"),
+        CANNOT_WRITE => write_all(err, b"ktrun: cannot write\n"),
         NOT_BUILT => write_all(err, b"ktrun: not built yet\n"),
         _ => Ok(()),
     }

@@ -1,8 +1,9 @@
-use Rattle.std.proofs.Common.{◌≡◌, ℕ, List, length, true, sym, subst, ◌∙◌}
+use Rattle.std.proofs.Common.{◌≡◌, ℕ, List, length, true, sym, subst, ◌∙◌, arith}
 use Rattle.std.specs.Prelude.{◌≤◌}
 use Rattle.kt_lexer.specs.Sources.{AreTokensOfSource}
 use Rattle.kt_tree.specs.declared.tokens.Token.{Token}
 use Rattle.kt_grammar.specs.Declarations.{IsFileOf}
+use Rattle.kt_tree.specs.Declarations.{file_tree}
 use Rattle.kt_tree.specs.Tokens.{ends_alone}
 use Rattle.kt_first.proofs.Found.{front_only, code_is, code_only, code_read, prints_values}
 use Rattle.kt_first.proofs.reading.parse_first.Goals as goal
@@ -28,7 +29,8 @@ pub returns-in_ok-file-clause-read : goal.returns-in_ok-file-clause-read
 returns-in_ok-file-clause-read c =
     let here = c.as_slice-then-text-le-MOST_BYTES.ensures.value in
     let short : length c.args.text.now ≤ 512 = omega (arith, c.if-text-le-MOST_BYTES.true) in
-    code_read c.args.text.now _ _ c.program_code.result short
+    let file = file_tree c.in_ok-file.file in
+    code_read c.args.text.now _ file c.program_code.result short
     (subst (λ (z : List Token). AreTokensOfSource c.args.text.now z) (sym here) c.in_ok-tokens.ensures.tokens)
-    (subst (λ (z : List Token). IsFileOf z _) (c.as_slice.ensures.value ∙ sym here) c.in_ok-file.ensures.parsed)
+    (subst (λ (z : List Token). IsFileOf z file) (c.as_slice.ensures.value ∙ sym here) c.in_ok-file.ensures.parsed)
     c.program_code.ensures

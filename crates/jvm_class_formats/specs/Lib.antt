@@ -1,0 +1,4 @@
+pub mod Formats
+pub mod Lawful
+pub mod Laws
+pub mod Reads

@@ -1,0 +1,5 @@
+pub mod Operators
+pub mod Bodies
+pub mod Headers
+pub mod Units
+pub mod Order

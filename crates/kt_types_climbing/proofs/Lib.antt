@@ -1,0 +1,4 @@
+pub mod Environments
+pub mod Weights
+pub mod Closed
+pub mod Steps

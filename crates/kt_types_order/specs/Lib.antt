@@ -1,0 +1,4 @@
+pub mod Below
+pub mod Graph
+pub mod Climbing
+pub mod Laws
