@@ -19,8 +19,8 @@ use kt_parser_blocks::{Below, Precedence};
 use kt_parser_operators::Operators;
 use kt_parser_steps::{
     ParseError, Refused, Tokens, beside, expect, expect_identifier, expect_keyword, keyword_if,
-    name_of, sign_ahead, sign_if, take_assignment_operator, take_range_operator,
-    take_step_operator, take_variable,
+    name_of, sign_if, take_assignment_operator, take_range_operator, take_step_operator,
+    take_variable,
 };
 use kt_parser_types::annotation;
 use kt_tree::{

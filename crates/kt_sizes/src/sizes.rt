@@ -41,42 +41,62 @@ impl Sizes {
     pub fn node() -> Sizes
         ensures { result ≡ capped spec.node }
     {
-        Sizes { nodes: 1, ..Sizes::nothing() }
+        Sizes {
+            nodes: 1,
+            ..Sizes::nothing()
+        }
     }
 
     /// A `while`, a `do`, a `catch`.
     pub fn heavy_node() -> Sizes
         ensures { result ≡ capped spec.heavy_node }
     {
-        Sizes { heavy: 1, ..Sizes::node() }
+        Sizes {
+            heavy: 1,
+            ..Sizes::node()
+        }
     }
 
     /// A `for`, which keeps its bound.
     pub fn for_node() -> Sizes
         ensures { result ≡ capped spec.for_node }
     {
-        Sizes { heavy: 1, kept: 1, ..Sizes::node() }
+        Sizes {
+            heavy: 1,
+            kept: 1,
+            ..Sizes::node()
+        }
     }
 
     /// A `when`, which keeps its subject.
     pub fn when_node() -> Sizes
         ensures { result ≡ capped spec.when_node }
     {
-        Sizes { kept: 1, ..Sizes::node() }
+        Sizes {
+            kept: 1,
+            ..Sizes::node()
+        }
     }
 
     /// A `try`, which keeps what its `finally` goes on with.
     pub fn try_node() -> Sizes
         ensures { result ≡ capped spec.try_node }
     {
-        Sizes { heavy: 1, kept: 4, ..Sizes::node() }
+        Sizes {
+            heavy: 1,
+            kept: 4,
+            ..Sizes::node()
+        }
     }
 
     /// A lambda literal with so many captures.
     pub fn lambda_node(captures: u64) -> Sizes
         ensures { result ≡ capped (spec.lambda_node captures) }
     {
-        Sizes { captured: captures, ..Sizes::node() }
+        Sizes {
+            captured: captures,
+            ..Sizes::node()
+        }
     }
 
     /// A suspension point, where it is one.
@@ -84,7 +104,11 @@ impl Sizes {
         ensures { result ≡ capped (spec.point_if suspends) }
     {
         if suspends {
-            Sizes { points: 1, depth: 1, ..Sizes::nothing() }
+            Sizes {
+                points: 1,
+                depth: 1,
+                ..Sizes::nothing()
+            }
         } else {
             Sizes::nothing()
         }
