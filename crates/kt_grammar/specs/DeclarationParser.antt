@@ -61,8 +61,7 @@ abbrev pub fun_word : Parser Token (Pos × FunctionModifiers)
 fun_word = repeat function_turn
     (record {
       start = None;
-      modifiers =
-          record { is_override = false; is_open = false; is_abstract = false; is_suspend = false };
+      modifiers = record { is_override = false; is_open = false; is_abstract = false; is_suspend = false };
     })
 
 abbrev pub typed_body : Bool → Parser Token FunctionBodyTree → Parser Token FunctionBodyTree
@@ -94,8 +93,7 @@ function_parser scope = fun_word
       name = name_of x;
       parameters = ps;
       result = r;
-      body =
-          b;
+      body = b;
     }))))))))
 
 abbrev pub constructor_parameter : Parser Token ConstructorParameterTree
@@ -155,8 +153,7 @@ class_rest m = token is_identifier
       name = name_of x;
       type_parameters = ts;
       parameters = ps;
-      supertypes =
-          ss;
+      supertypes = ss;
       members = ms;
     }))))))
 

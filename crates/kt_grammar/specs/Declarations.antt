@@ -112,8 +112,7 @@ abbrev pub IsFun : Pos × FunctionModifiers → List Token → List Token → Ty
 IsFun = Loop (ModifierTurn IsFunctionModifier (IsKeyword word.Fun))
     (record {
       start = None;
-      modifiers =
-          record { is_override = false; is_open = false; is_abstract = false; is_suspend = false };
+      modifiers = record { is_override = false; is_open = false; is_abstract = false; is_suspend = false };
     })
 
 -- n block | '=' n expr
@@ -147,8 +146,7 @@ IsFunction scope = Seq IsFun
       type_parameters = ts;
       name = name_of x;
       parameters = ps;
-      result =
-          r;
+      result = r;
       body = b;
     }))))))))
 
@@ -203,8 +201,7 @@ IsProperty = Seq (IsMeant variable_of)
       is_variable = var.1;
       name = p.name;
       annotation = p.annotation;
-      initializer =
-          a;
+      initializer = a;
     })))))
 
 -- member : fun | ('val' | 'var') ID ':' type '=' n expr
@@ -235,8 +232,7 @@ IsClass = Seq IsClassWord
       name = name_of x;
       type_parameters = ts;
       parameters = ps;
-      supertypes =
-          ss;
+      supertypes = ss;
       members = ms;
     })))))))
 
