@@ -11,7 +11,8 @@ use kt_types_tree::Hierarchy;
 use sqlite_items::{Items, at};
 use std::alloc::Global;
 
-fn is_open(done: &[bool], row: usize) -> bool
+/// Whether a row is there and not marked.
+pub fn is_open(done: &[bool], row: usize) -> bool
     ensures { IsTrue result ↔ (slice_get done.now row ≡ Some false) }
 {
     match at(done, row) {
