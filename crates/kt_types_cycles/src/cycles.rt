@@ -35,7 +35,8 @@ fn open_link(links: &[u32], done: &[bool]) -> Option<usize>
 
 /// The first row to which a row leads and that isn't done.
 fn open_link_of(graph: &[Items<u32>], row: usize, done: &[bool]) -> Option<usize>
-    ensures { MatchOption result (AreLinksDone (row_or_none (slice_get graph.now row)) done.now) (IsOpenLink (row_or_none (slice_get graph.now row)) done.now) }
+    ensures { MatchOption result (AreLinksDone (row_or_none (slice_get graph.now row)) done.now)
+        (IsOpenLink (row_or_none (slice_get graph.now row)) done.now) }
 {
     match at(graph, row) {
         None => None,
