@@ -1,3 +1,5 @@
 mod PlainFiles
 mod WithinBounds
 mod PlainHeaders
+mod PlainWalk
+mod PlainAnswers

@@ -1,23 +1,21 @@
 -- A function of a plain file has a header exactly where its rules hold.
-use Rattle.std.specs.Prelude.{ℕ, zero, suc, Bool, true, false, List, [], ◌∷◌, ◌++◌, ◌==◌, ◌≡◌, ◌&&◌, ◌||◌, Option, Some, None, not, map, length, codes, refl, if◌then◌else◌}
-use Rattle.std.specs.List.{flat_map, list_any}
-use Rattle.std.proofs.Common.{rules, ap, sym, ◌∙◌, subst, arith}
+use Rattle.std.specs.Prelude.{Bool, true, false, List, [], ◌≡◌, ◌&&◌, ◌||◌, Option, Some, None, not, map, length, refl, if◌then◌else◌}
+use Rattle.std.specs.List.{flat_map}
+use Rattle.std.proofs.Common.{ap, sym, ◌∙◌, subst}
 use Rattle.kt_tree.specs.declared.declarations.FunctionModifiers.{FunctionModifiers}
 use Rattle.kt_tree.specs.Types.{TypeTree}
-use Rattle.kt_tree.specs.Declarations.{DeclarationTree, function, FunctionTree, TypedParameterTree}
+use Rattle.kt_tree.specs.Declarations.{DeclarationTree, function, FunctionTree}
 use Rattle.kt_types_tree.specs.declared.types.TypeConstructor.TheVariants as constructor
 use Rattle.kt_types_tree.specs.Types.{TypeForm, typed, nothing, any, parameter, of, forms_end, form_then}
-use Rattle.kt_typed.specs.declared.headers.DeclaredTypeParameter.{DeclaredTypeParameter}
-use Rattle.kt_typed.specs.Headers.{ParameterForm, FunctionForm}
-use Rattle.kt_decls_types.specs.References.{resolved, then_on}
+use Rattle.kt_typed.specs.Headers.{FunctionForm}
+use Rattle.kt_decls_types.specs.References.{then_on}
 use Rattle.kt_decls_table.specs.Functions.{parameters_meant, result_meant, is_unit, is_main, are_plain, fits_main, is_fine_name, form_of, with_types, function_header, header_if, top_function}
 use Rattle.kt_decls_rules.specs.Names.{Taken, taken_by, taken_by_function, clash_with_any, are_free, are_distinct, is_reserved}
 use Rattle.kt_decls_rules.specs.Tables.{meant, hierarchy_of, scope_of, row_count}
 use Rattle.kt_decls_rules.specs.Members.{unit_type}
 use Rattle.kt_decls_rules.specs.Members as members
-use Rattle.kt_decls_rules.specs.Rules as rule
-use Rattle.kt_decls_rules.specs.Rules.{AreMeant, written, types_of_function, bounds_written, DoBoundsEnd, IsFineDeclaration, IsFineFunction}
-use Rattle.kt_decls_rules.specs.Headers.{Header, top, IsFine}
+use Rattle.kt_decls_rules.specs.Rules.{AreMeant, written, types_of_function, bounds_written, DoBoundsEnd}
+use Rattle.kt_decls_rules.specs.Headers.{top, IsFine}
 use Rattle.kt_decls.specs.Judging.{no_classes, ArePlain}
 use Rattle.kt_decls.proofs.PlainFiles.{meant_plainly, no_scope}
 use Rattle.kt_decls.proofs.WithinBounds.{went_on, parameters_if, parameters_only_if, result_if, result_only_if, both_meant, first_meant, second_meant}
@@ -68,9 +66,10 @@ unit_fits_main false t known = refl
 
 plain_parts : (m : FunctionModifiers) → are_plain m ≡ true → (m.is_override ≡ false) × ((m.is_open ≡ false) × (m.is_abstract ≡ false))
 plain_parts m e =
-    let rest = second_of (not m.is_override) (not m.is_open && not m.is_abstract) e in
-    (isn't m.is_override (first_of (not m.is_override) (not m.is_open && not m.is_abstract) e),
-      (isn't m.is_open (first_of (not m.is_open) (not m.is_abstract) rest), isn't m.is_abstract (second_of (not m.is_open) (not m.is_abstract) rest)))
+    let rest = second_of (not m.is_override) (not m.is_open && not m.is_abstract) e in (
+      isn't m.is_override (first_of (not m.is_override) (not m.is_open && not m.is_abstract) e),
+      (isn't m.is_open (first_of (not m.is_open) (not m.is_abstract) rest), isn't m.is_abstract (second_of (not m.is_open) (not m.is_abstract) rest)),
+    )
 
 are_plain_if : (m : FunctionModifiers) → m.is_override ≡ false → m.is_open ≡ false → m.is_abstract ≡ false → are_plain m ≡ true
 are_plain_if m a b c = λ i. not (a i) && (not (b i) && not (c i))
@@ -114,22 +113,24 @@ module _ (file before : List DeclarationTree) (plain : ArePlain file) (f : Funct
       let one = went_on file plain (parameters_meant no_classes [] f.parameters) (λ ps. then_on (result_meant no_classes f.result) (with_types f ps)) h head.1 in
       let two = went_on file plain (result_meant no_classes f.result) (with_types f one.0) h one.1.1 in
       let fits = if_some (fits_main (is_main f.name f.parameters) two.0) (Some (form_of f one.0 two.0)) h two.1.1 in
-      let modifiers = plain_parts f.modifiers parts.1.1.1 in
-      (record {
-        not_reserved = parts.1.1.0;
-        free = sym free_if ∙ parts.0;
-        distinct_type_parameters = ap (λ ps. are_distinct (map (λ p. p.name) ps)) bare;
-        distinct_parameters = parts.1.0;
-        bounds_meant = no_bounds_written;
-        types_meant = in_scope (types_of_function f) (both_meant file plain (map (λ p. p.annotation) f.parameters) (written f.result) (parameters_if file plain f.parameters [] one.0 one.1.0) (result_if file plain f.result two.0 two.1.0));
-        bounds_end = no_bounds_lead;
-      }, record {
-        no_override = modifiers.0;
-        not_open = modifiers.1.0;
-        not_abstract = modifiers.1.1;
-        main_alone = λ m. ap length bare;
-        main_result = λ m. results_same f.result ∙ (two.1.0 ∙ ap Some (main_is_unit (is_main f.name f.parameters) two.0 fits.0 m));
-      })
+      let modifiers = plain_parts f.modifiers parts.1.1.1 in (
+        record {
+          not_reserved = parts.1.1.0;
+          free = sym free_if ∙ parts.0;
+          distinct_type_parameters = ap (λ ps. are_distinct (map (λ p. p.name) ps)) bare;
+          distinct_parameters = parts.1.0;
+          bounds_meant = no_bounds_written;
+          types_meant = in_scope (types_of_function f) (both_meant file plain (map (λ p. p.annotation) f.parameters) (written f.result) (parameters_if file plain f.parameters [] one.0 one.1.0) (result_if file plain f.result two.0 two.1.0));
+          bounds_end = no_bounds_lead;
+        },
+        record {
+          no_override = modifiers.0;
+          not_open = modifiers.1.0;
+          not_abstract = modifiers.1.1;
+          main_alone = λ m. ap length bare;
+          main_result = λ m. results_same f.result ∙ (two.1.0 ∙ ap Some (main_is_unit (is_main f.name f.parameters) two.0 fits.0 m));
+        },
+      )
 
   same_some : (o : Option TypeForm) (a b : TypeForm) → o ≡ Some a → o ≡ Some b → a ≡ b
   same_some o a b d e = cc
@@ -141,9 +142,10 @@ module _ (file before : List DeclarationTree) (plain : ArePlain file) (f : Funct
       let two = result_only_if file plain f.result (second_meant file plain (map (λ p. p.annotation) f.parameters) (written f.result) types) in
       let fits = unit_fits_main (is_main f.name f.parameters) two.0 (λ m. same_some (result_meant no_classes f.result) two.0 unit_type two.1 (sym (results_same f.result) ∙ fine.1.main_result m)) in
       let named : is_fine_name f.name (not (taken (taken_by_function f))) (are_distinct (map (λ p. p.name) f.parameters)) f.modifiers ≡ true =
-          both_of _ (are_plain f.modifiers) (both_of _ (not (is_reserved f.name)) (both_of (not (taken (taken_by_function f))) _ (free_if ∙ fine.0.free) fine.0.distinct_parameters) (ap not fine.0.not_reserved)) (are_plain_if f.modifiers fine.1.no_override fine.1.not_open fine.1.not_abstract) in
-      (form_of f one.0 two.0,
+      both_of _ (are_plain f.modifiers) (both_of _ (not (is_reserved f.name)) (both_of (not (taken (taken_by_function f))) _ (free_if ∙ fine.0.free) fine.0.distinct_parameters) (ap not fine.0.not_reserved)) (are_plain_if f.modifiers fine.1.no_override fine.1.not_open fine.1.not_abstract) in (
+        form_of f one.0 two.0,
         ap (header_if no_classes f) named
-        ∙ (ap (λ o. then_on o (λ ps. then_on (result_meant no_classes f.result) (with_types f ps))) one.1
-          ∙ (ap (λ o. then_on o (with_types f one.0)) two.1
-            ∙ ap (λ b. if b then Some (form_of f one.0 two.0) else None) fits)))
+            ∙ (ap (λ o. then_on o (λ ps. then_on (result_meant no_classes f.result) (with_types f ps))) one.1
+            ∙ (ap (λ o. then_on o (with_types f one.0)) two.1
+            ∙ ap (λ b. if b then Some (form_of f one.0 two.0) else None) fits)),
+      )

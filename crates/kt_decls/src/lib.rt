@@ -3,4 +3,4 @@
 
 pub mod declaring;
 
-
+pub use declaring::declare_functions;
