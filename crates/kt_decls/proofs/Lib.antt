@@ -3,3 +3,4 @@ mod WithinBounds
 mod PlainHeaders
 mod PlainWalk
 mod PlainAnswers
+mod Tested

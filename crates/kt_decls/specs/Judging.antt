@@ -1,5 +1,5 @@
 -- The functions of a file, one behind the other: their headers, or where one isn't well formed.
-use Rattle.std.specs.Prelude.{Bool, List, [], ◌∷◌, ◌++◌, ◌≡◌, Option, Some, None, Result, Ok, Err, map}
+use Rattle.std.specs.Prelude.{true, false, Bool, List, [], ◌∷◌, ◌++◌, ◌≡◌, Option, Some, None, Result, Ok, Err, map, if◌then◌else◌}
 use Rattle.kt_base.specs.declared.refusals.Pos.{Pos}
 use Rattle.kt_base.specs.declared.refusals.FrontErr.{FrontErr}
 use Rattle.kt_base.specs.declared.refusals.FrontErr.TheVariants as why
@@ -63,6 +63,21 @@ IsPlain (class c) = ⊥
 IsPlain (interface i) = ⊥
 IsPlain (enum e) = ⊥
 IsPlain (constant c) = ⊥
+
+abbrev pub has_none : {A : Type 0} → List A → Bool
+has_none [] = true
+has_none (x ∷ xs) = false
+
+abbrev pub is_plain : DeclarationTree → Bool
+is_plain (function f) = has_none f.type_parameters
+is_plain (class c) = false
+is_plain (interface i) = false
+is_plain (enum e) = false
+is_plain (constant c) = false
+
+abbrev pub are_plain : List DeclarationTree → Bool
+are_plain [] = true
+are_plain (d ∷ ds) = if is_plain d then are_plain ds else false
 
 abbrev pub ArePlain : List DeclarationTree → Type 0
 ArePlain [] = Unit {0}

@@ -3,4 +3,4 @@
 
 pub mod declaring;
 
-pub use declaring::declare_functions;
+pub use declaring::{are_plain, declare_functions};
