@@ -1,9 +1,10 @@
 -- Rows that are set or added, as facts.
-use Rattle.std.proofs.Common.{arith, ℕ, zero, suc, ◌+◌, ◌<◌, ◌≤◌, Bool, true, false, List, [], ◌∷◌, ◌++◌, Option, Some, None, length, map, ◌≡◌, refl, ap, ◌∙◌, sym, subst, if◌then◌else◌}
+use Rattle.std.proofs.Common.{arith, ℕ, zero, suc, ◌+◌, ◌<◌, ◌≤◌, Bool, true, false, List, [], ◌∷◌, ◌++◌, Option, Some, None, length, map, ◌≡◌, refl, ap, ◌∙◌, sym, subst, if◌then◌else◌, inl, inr, ◌⊎◌}
+use Rattle.std.proofs.lemmas.Bool.{cases_order}
 use Rattle.std.specs.Prelude.{slice_get, slice_set, ◌==◌}
 use Rattle.kt_types_tree.specs.Types.{TypeForm, type_form}
 use Rattle.kt_flow.specs.declared.facts.LocalFacts.{LocalFacts}
-use Rattle.kt_flow.specs.Facts.{FactsForm, but_at, has_type, with_type, learn, assign}
+use Rattle.kt_flow.specs.Facts.{FactsForm, but_at, has_type, with_type, learn, assign, meet}
 use Rattle.kt_flow.specs.Rows.{types_in, surely_in, maybe_in, form_of}
 
 -- facts are the same where they are so of each local
@@ -119,3 +120,72 @@ assigning rows n r p a b c = set_form rows n r p ∙ each_local _ _
     (λ x. ap (λ ts. but_at n (map type_form ts) (form_of rows).types x) a)
     (λ x. ap (λ v. but_at n v (form_of rows).surely_assigned x) b)
     (λ x. ap (λ v. but_at n v (form_of rows).maybe_assigned x) c)
+
+-- Rows that are made one after the other where two paths join.
+
+pub record IsMetBelow (rows : List LocalFacts) (f g : FactsForm) (n : ℕ) : Type 0 where
+  pub size : length rows ≡ n
+  pub types : (x : ℕ) → x < n → types_in (slice_get rows x) ≡ (meet f g).types x
+  pub surely : (x : ℕ) → x < n → surely_in (slice_get rows x) ≡ (meet f g).surely_assigned x
+  pub maybe : (x : ℕ) → x < n → maybe_in (slice_get rows x) ≡ (meet f g).maybe_assigned x
+
+pub none_met : (f g : FactsForm) → IsMetBelow [] f g 0
+none_met f g = record {
+  size = refl;
+  types = λ x p. absurd (omega (arith, p));
+  surely = λ x p. absurd (omega (arith, p));
+  maybe = λ x p. absurd (omega (arith, p));
+}
+
+before_end : (rows : List LocalFacts) (r : LocalFacts) (x : ℕ) → x < length rows → slice_get (rows ++ r ∷ []) x ≡ slice_get rows x
+before_end [] r x p = absurd (omega (arith, p))
+before_end (y ∷ rows) r zero p = refl
+before_end (y ∷ rows) r (suc x) p = before_end rows r x (omega (arith, p))
+
+at_end : (rows : List LocalFacts) (r : LocalFacts) → slice_get (rows ++ r ∷ []) (length rows) ≡ Some r
+at_end [] r = refl
+at_end (y ∷ rows) r = at_end rows r
+
+longer : (rows : List LocalFacts) (r : LocalFacts) → length (rows ++ r ∷ []) ≡ length rows + 1
+longer [] r = refl
+longer (y ∷ rows) r = let e = longer rows r in omega (arith, e)
+
+-- a property of all places holds with one more
+one_more : {A : Type 0} (show : Option LocalFacts → A) (is : ℕ → A) (rows : List LocalFacts) (r : LocalFacts) (n : ℕ) → length rows ≡ n → ((x : ℕ) → x < n → show (slice_get rows x) ≡ is x) → show (Some r) ≡ is n → (x : ℕ) → x < n + 1 → show (slice_get (rows ++ r ∷ []) x) ≡ is x
+one_more show is rows r n e p q x less = by_place (cases_order x n)
+  where
+    by_place : (x ≡ n) ⊎ (x < n) ⊎ (n < x) → show (slice_get (rows ++ r ∷ []) x) ≡ is x
+    by_place (inl s) = ap (λ x. show (slice_get (rows ++ r ∷ []) x)) (s ∙ sym e) ∙ ap show (at_end rows r) ∙ q ∙ ap is (sym s)
+    by_place (inr (inl s)) = ap show (before_end rows r x (subst (λ n. x < n) (sym e) s)) ∙ p x s
+    by_place (inr (inr s)) = absurd (omega (arith, s, less))
+
+pub one_met : (rows : List LocalFacts) (f g : FactsForm) (n : ℕ) (r : LocalFacts) → IsMetBelow rows f g n → map type_form r.types ≡ (meet f g).types n → r.surely_assigned ≡ (meet f g).surely_assigned n → r.maybe_assigned ≡ (meet f g).maybe_assigned n → IsMetBelow (rows ++ r ∷ []) f g (n + 1)
+one_met rows f g n r m a b c = record {
+  size = longer rows r ∙ ap (λ n. n + 1) m.size;
+  types = one_more types_in (meet f g).types rows r n m.size m.types a;
+  surely = one_more surely_in (meet f g).surely_assigned rows r n m.size m.surely b;
+  maybe = one_more maybe_in (meet f g).maybe_assigned rows r n m.size m.maybe c;
+}
+
+past : (rows : List LocalFacts) (x : ℕ) → length rows ≤ x → slice_get rows x ≡ None
+past [] x p = refl
+past (y ∷ rows) zero p = absurd (omega (arith, p))
+past (y ∷ rows) (suc x) p = past rows x (omega (arith, p))
+
+-- a property of all places below a length, and past it
+all_places : {A : Type 0} (show : Option LocalFacts → A) (is : ℕ → A) (rows : List LocalFacts) (n : ℕ) → length rows ≡ n → ((x : ℕ) → x < n → show (slice_get rows x) ≡ is x) → ((x : ℕ) → n ≤ x → show None ≡ is x) → (x : ℕ) → show (slice_get rows x) ≡ is x
+all_places show is rows n e p q x = by_place (cases_order x n)
+  where
+    by_place : (x ≡ n) ⊎ (x < n) ⊎ (n < x) → show (slice_get rows x) ≡ is x
+    by_place (inl s) = ap show (past rows x (omega (arith, e, s))) ∙ q x (omega (arith, s))
+    by_place (inr (inl s)) = p x s
+    by_place (inr (inr s)) = ap show (past rows x (omega (arith, e, s))) ∙ q x (omega (arith, s))
+
+pub all_met : (rows ps qs : List LocalFacts) (n : ℕ) → IsMetBelow rows (form_of ps) (form_of qs) n → length ps ≤ n → length qs ≤ n → form_of rows ≡ meet (form_of ps) (form_of qs)
+all_met rows ps qs n m p q = each_local _ _
+    (all_places types_in (meet (form_of ps) (form_of qs)).types rows n m.size m.types
+    (λ x l. rw (past ps x (omega (arith, p, l))) refl))
+    (all_places surely_in (meet (form_of ps) (form_of qs)).surely_assigned rows n m.size m.surely
+    (λ x l. rw (past ps x (omega (arith, p, l))) refl))
+    (all_places maybe_in (meet (form_of ps) (form_of qs)).maybe_assigned rows n m.size m.maybe
+    (λ x l. rw (past ps x (omega (arith, p, l)), past qs x (omega (arith, q, l))) refl))

@@ -1,5 +1,5 @@
 -- The test of sameness is equality.
-use Rattle.std.proofs.Common.{arith, ℕ, Bool, true, false, ◌≡◌, refl, ap, ◌∙◌, sym}
+use Rattle.std.proofs.Common.{arith, ℕ, Bool, true, false, ◌≡◌, refl, ap}
 use Rattle.std.specs.Prelude.{◌==◌, ◌&&◌, IsTrue, ◌↔◌}
 use Rattle.kt_types_tree.specs.declared.types.TypeConstructor.{TypeConstructor}
 use Rattle.kt_types_tree.specs.declared.types.TypeConstructor.TheVariants as c

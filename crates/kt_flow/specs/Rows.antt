@@ -1,5 +1,5 @@
 -- Facts as they are kept: one row for each local, by its number. A local without a row has no facts and isn't assigned.
-use Rattle.std.specs.Prelude.{ℕ, Bool, false, List, [], Option, Some, None, map, slice_get, Result, Ok, Err, ◌≡◌}
+use Rattle.std.specs.Prelude.{Bool, false, List, [], Option, Some, None, map, slice_get}
 use Rattle.kt_types_tree.specs.Types.{TypeForm, type_form}
 use Rattle.kt_flow.specs.declared.facts.LocalFacts.{LocalFacts}
 use Rattle.kt_flow.specs.declared.facts.Facts.{Facts}
