@@ -7,10 +7,13 @@ use Rattle.kt_types_tree.specs.Types.{TypeForm, ShapeForm, typed, nothing, any, 
 use Rattle.kt_typed.specs.declared.headers.DeclaredTypeParameter.{DeclaredTypeParameter}
 use Rattle.kt_decls_types.specs.declared.scopes.NamedClass.{NamedClass}
 use Rattle.kt_decls_types.specs.declared.scopes.NamedParameter.{NamedParameter}
-use Rattle.kt_decls_types.specs.declared.names.BuiltInType.{BuiltInType}
+use Rattle.kt_types_builtins.specs.declared.types.BuiltInType.{BuiltInType}
+use Rattle.kt_types_builtins.specs.Types.{type_of_name}
+use Rattle.kt_types_builtins.specs.declared.throwables.BuiltInThrowable.{BuiltInThrowable}
+use Rattle.kt_types_builtins.specs.Throwables.{throwable_of_name, throwable_row}
 use Rattle.kt_decls_types.specs.declared.names.Meaning.{Meaning}
 use Rattle.kt_decls_types.specs.declared.names.Meaning.TheVariants as means
-use Rattle.kt_decls_types.specs.Names.{built_in_named, meaning}
+use Rattle.kt_decls_types.specs.Names.{meaning}
 use Rattle.kt_decls_types.specs.Scopes.{parameter_named}
 use Rattle.kt_tree.specs.Types.{TypeTree, TypeTrees, named, function, nullable, parenthesized, types_end, type_then}
 
@@ -24,18 +27,27 @@ class_meaning c = means.Taking (constructor.Class c.row) c.parameters
 abbrev pub parameter_meaning : NamedParameter → Meaning
 parameter_meaning p = means.Parameter p.row p.place
 
--- a type parameter hides every other name; no class has the name of a built-in type
-abbrev pub meaning_of_others : Option BuiltInType → Option NamedClass → Option Meaning
-meaning_of_others (Some t) c = Some (meaning t)
-meaning_of_others None (Some c) = Some (class_meaning c)
-meaning_of_others None None = None
+abbrev pub throwable_meaning : BuiltInThrowable → Meaning
+throwable_meaning t = means.Taking (constructor.Class (throwable_row t)) 0
 
-abbrev pub meaning_among : Option NamedParameter → Option BuiltInType → Option NamedClass → Option Meaning
-meaning_among (Some p) t c = Some (parameter_meaning p)
-meaning_among None t c = meaning_of_others t c
+-- a type parameter hides every other name; no class has the name of a built-in type or of a throwable
+abbrev pub meaning_of_class : Option BuiltInThrowable → Option NamedClass → Option Meaning
+meaning_of_class (Some t) c = Some (throwable_meaning t)
+meaning_of_class None (Some c) = Some (class_meaning c)
+meaning_of_class None None = None
+
+abbrev pub meaning_of_others : Option BuiltInType → Option Meaning → Option Meaning
+meaning_of_others (Some t) m = Some (meaning t)
+meaning_of_others None m = m
+
+abbrev pub meaning_among : Option NamedParameter → Option Meaning → Option Meaning
+meaning_among (Some p) m = Some (parameter_meaning p)
+meaning_among None m = m
 
 abbrev pub meaning_of : (List ℕ → Option NamedClass) → List DeclaredTypeParameter → List ℕ → Option Meaning
-meaning_of classes parameters x = meaning_among (parameter_named parameters x) (built_in_named x) (classes x)
+meaning_of classes parameters x =
+    meaning_among (parameter_named parameters x)
+    (meaning_of_others (type_of_name x) (meaning_of_class (throwable_of_name x) (classes x)))
 
 abbrev pub is_nullable : TypeForm → Bool
 is_nullable (typed n s) = n
@@ -64,7 +76,8 @@ applied (means.Taking c n) ts =
 -- a function type has at most six parameters
 abbrev pub function_type : Bool → List TypeForm → TypeForm → Option TypeForm
 function_type suspends ts t =
-    if nat_le (length ts) 6 then Some (typed false (of (constructor.Function suspends) (forms_of (ts ++ t ∷ [])))) else None
+    if nat_le (length ts) 6 then Some (typed false (of (constructor.Function suspends) (forms_of (ts ++ t ∷ []))))
+    else None
 
 abbrev mutual
   pub resolved : (List ℕ → Option NamedClass) → List DeclaredTypeParameter → TypeTree → Option TypeForm

@@ -13,11 +13,17 @@ use Rattle.kt_decls_types.specs.declared.scopes.NamedParameter.{NamedParameter}
 abbrev pub class_named : ClassNames → List ℕ → Option NamedClass
 class_named names name = get (slice_cmp nat_cmp) names.by_name name
 
+-- what was found, and else the class of a name, where that is the name
+abbrev pub or_named : Option NamedClass → List ℕ → NamedClass → List ℕ → Option NamedClass
+or_named (Some found) name class x = Some found
+or_named None name class x = if pointwise ◌==◌ name x then Some class else None
+
 -- the first type parameter of a name, with its place
 abbrev pub parameter_from : ℕ → List DeclaredTypeParameter → List ℕ → Option NamedParameter
 parameter_from place [] name = None
 parameter_from place (p ∷ ps) name =
-    if pointwise ◌==◌ p.name name then Some (record { row = p.row; place = place }) else parameter_from (place + 1) ps name
+    if pointwise ◌==◌ p.name name then Some (record { row = p.row; place = place })
+    else parameter_from (place + 1) ps name
 
 abbrev pub parameter_named : List DeclaredTypeParameter → List ℕ → Option NamedParameter
 parameter_named = parameter_from 0

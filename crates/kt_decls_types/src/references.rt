@@ -4,18 +4,36 @@ ghost use Rattle.kt_decls_types.specs.Answers.{Answers, Resolves};
 ghost use Rattle.kt_decls_types.specs.References as spec;
 ghost use Rattle.kt_decls_types.specs.Scopes.{class_named};
 ghost use Rattle.kt_tree.specs.Types.{type_tree, types_of};
+ghost use Rattle.kt_types_builtins.specs.Throwables.{throwable_of_name};
 ghost use Rattle.kt_types_tree.specs.Types.{ShapeForm, type_form, typed};
 ghost use Rattle.kt_decls_types.specs.declared.names.Meaning.TheVariants.{Taking};
 ghost use Rattle.std.specs.Prelude.{◌≡◌, ◌<◌, ◌^◌, length, [], map, false};
 
-use crate::names::{BuiltInType, Meaning};
+use crate::names::{Meaning, meaning_of_built_in};
 use crate::scopes::{ClassNames, Unresolved, parameter_named};
 use kt_base::Name;
 use kt_tree::TypeReference;
 use kt_typed::DeclaredTypeParameter;
+use kt_types_builtins::{BuiltInThrowable, BuiltInType};
 use kt_types_tree::{KtType, TypeConstructor};
 use sqlite_items::Items;
 use std::alloc::Global;
+
+/// What the name of a throwable or of a class stands for.
+fn meaning_of_class(classes: &ClassNames, name: &Name) -> Option<Meaning>
+    ensures { result ≡ spec.meaning_of_class (throwable_of_name name.now) (class_named classes.now name.now) }
+{
+    match BuiltInThrowable::of_name(name.as_bytes()) {
+        Some(throwable) => Some(Meaning::Taking(TypeConstructor::Class(throwable.row()), 0)),
+        None => match classes.class_named(name) {
+            Some(class) => Some(Meaning::Taking(
+                TypeConstructor::Class(class.row),
+                class.parameters,
+            )),
+            None => None,
+        },
+    }
+}
 
 /// What a name stands for: a type parameter hides every other name.
 fn meaning_of(
@@ -28,15 +46,9 @@ fn meaning_of(
 {
     match parameter_named(parameters, name) {
         Some(parameter) => Some(Meaning::Parameter(parameter.row, parameter.place)),
-        None => match BuiltInType::named(name.as_bytes()) {
-            Some(built_in) => Some(built_in.meaning()),
-            None => match classes.class_named(name) {
-                Some(class) => Some(Meaning::Taking(
-                    TypeConstructor::Class(class.row),
-                    class.parameters,
-                )),
-                None => None,
-            },
+        None => match BuiltInType::of_name(name.as_bytes()) {
+            Some(built_in) => Some(meaning_of_built_in(built_in)),
+            None => meaning_of_class(classes, name),
         },
     }
 }
@@ -143,9 +155,9 @@ pub fn resolved(
 {
     match written {
         TypeReference::Named(name, arguments) => {
-            let meaning = or_refused(meaning_of(classes, parameters, name))?;
+            let head = or_refused(meaning_of(classes, parameters, name))?;
             let arguments = resolved_all(alloc, classes, parameters, arguments.as_slice())?;
-            applied(meaning, arguments)
+            applied(head, arguments)
         }
         TypeReference::Function(suspends, taken, given) => {
             let taken = resolved_all(alloc, classes, parameters, taken.as_slice())?;

@@ -1,10 +1,10 @@
 //! What is known of names where a type is written.
 
 ghost use Rattle.kt_decls_types.specs.Scopes as spec;
-ghost use Rattle.std.specs.Prelude.{◌≡◌, ◌<◌, ◌^◌, length, ℕ, List, None};
+ghost use Rattle.std.specs.Prelude.{◌≡◌, ◌<◌, ◌^◌, length, ℕ, List, None, OnOk};
 ghost use Rattle.kt_decls_types.specs.declared.scopes.Unresolved.TheVariants.{NoMemory};
 
-use kt_base::Name;
+use kt_base::{Name, NoMemory as WantOfMemory};
 use kt_typed::DeclaredTypeParameter;
 use std::alloc::{AllocError, Global};
 use std::collections::BTreeMap;
@@ -21,6 +21,14 @@ impl From<AllocError> for Unresolved {
     ghost from_gives = { λ _ e. e ≡ NoMemory };
 
     fn from(_: AllocError) -> Unresolved {
+        Unresolved::NoMemory
+    }
+}
+
+impl From<WantOfMemory> for Unresolved {
+    ghost from_gives = { λ _ e. e ≡ NoMemory };
+
+    fn from(_: WantOfMemory) -> Unresolved {
         Unresolved::NoMemory
     }
 }
@@ -48,6 +56,17 @@ impl ClassNames {
         ClassNames {
             by_name: BTreeMap::new(alloc),
         }
+    }
+
+    /// Adds a class, unless one of its name is there.
+    pub fn add(&mut self, name: &Name, class: NamedClass) -> Result<(), WantOfMemory>
+        ensures { OnOk result ((x : List ℕ) →
+            spec.class_named self.new x ≡ spec.or_named (spec.class_named self.old x) name.now class x) }
+    {
+        if !self.by_name.contains_key(name) {
+            let _before = self.by_name.insert(name.clone()?, class)?;
+        }
+        Ok(())
     }
 
     /// The class of that name, in logarithmic time.

@@ -8,7 +8,7 @@ use Rattle.kt_base.specs.StackCode.{Stacked, stepped, runs, Prints}
 use Rattle.kt_tree.specs.declared.tokens.Token.{Token}
 use Rattle.kt_tree.specs.Declarations.{DeclarationTree}
 use Rattle.kt_grammar.specs.Declarations.{IsFileOf}
-use Rattle.kt_grammar.proofs.FileLaws.{one_tree}
+use Rattle.kt_grammar.proofs.declarations.FileLaws.{one_tree}
 use Rattle.kt_lexer.proofs.Whole.{one_tokens}
 use Rattle.kt_first.specs.Programs.{Operation, sum, difference, product, Expression, number, under, result_of, step_of, expression_code, value_of, Program, print_code, values_of, code_of}
 use Rattle.kt_first.specs.Trees.{IsFirst, program_of_file}

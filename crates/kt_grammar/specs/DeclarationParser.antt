@@ -18,7 +18,7 @@ use Rattle.kt_tree.specs.Tokens.{is_keyword, is_sign, is_soft_keyword, is_identi
 use Rattle.kt_tree.specs.Types.{TypeTree}
 use Rattle.kt_tree.specs.Declarations as d
 use Rattle.kt_tree.specs.Declarations.{TypeParameterTree, TypedParameterTree, FunctionBodyTree, FunctionTree, ConstructorParameterTree, SupertypeTree, PropertyTree, MemberTree, ClassTree, InterfaceTree, ConstantTree, DeclarationTree}
-use Rattle.kt_grammar.specs.Parsers.{Outcome, Parser, cursor, ◌>>=◌, ◌>>◌, pure, token, on, attempt, repeat}
+use Rattle.kt_grammar_parsers.specs.Parsers.{Outcome, Parser, cursor, ◌>>=◌, ◌>>◌, pure, token, on, attempt, repeat}
 use Rattle.kt_grammar.specs.Terminals.{name_of, is_end, is_open_quote, is_close_quote, literal_of, text_of, variable_of}
 use Rattle.kt_grammar.specs.Declarations.{Scope, Modified, first_place, start_of, has_body, may_be_generic, kind_of, arguments_at, outside, most_levels, at_top, in_class, in_interface}
 use Rattle.kt_grammar.specs.Readers.{meant, on_if, lines, expect, maybe, commas, maybe_commas, several_items, separated, named_type, type_parser}
@@ -59,8 +59,10 @@ function_turn m = modifier soft.Override (λ f. f.is_override) (λ f. record f {
 
 abbrev pub fun_word : Parser Token (Pos × FunctionModifiers)
 fun_word = repeat function_turn
-    (record { start = None; modifiers =
-    record { is_override = false; is_open = false; is_abstract = false; is_suspend = false } })
+    (record {
+      start = None;
+      modifiers = record { is_override = false; is_open = false; is_abstract = false; is_suspend = false };
+    })
 
 abbrev pub typed_body : Bool → Parser Token FunctionBodyTree → Parser Token FunctionBodyTree
 typed_body typed other =
@@ -83,10 +85,16 @@ function_parser scope = fun_word
     >>= (λ ts. token is_identifier
     >>= (λ x. expect sign.OpenParenthesis >> (maybe_commas (is_sign sign.CloseParenthesis) typed_parameter >>= (λ ps.
     maybe (is_sign sign.Colon) any_type
-        >>= (λ r. body_if (has_body scope m.1) (is_some r)
-        >>= (λ b. pure (record
-        { at = m.0; modifiers = m.1; type_parameters = ts; name = name_of x; parameters = ps; result = r; body =
-        b }))))))))
+    >>= (λ r. body_if (has_body scope m.1) (is_some r)
+    >>= (λ b. pure (record {
+      at = m.0;
+      modifiers = m.1;
+      type_parameters = ts;
+      name = name_of x;
+      parameters = ps;
+      result = r;
+      body = b;
+    }))))))))
 
 abbrev pub constructor_parameter : Parser Token ConstructorParameterTree
 constructor_parameter = attempt (meant kind_of) (λ k. pure k.1) (pure parameter.Plain)
@@ -139,8 +147,15 @@ abbrev pub class_rest : Pos × ClassModifiers → Parser Token ClassTree
 class_rest m = token is_identifier
     >>= (λ x. type_parameters
     >>= (λ ts. constructor_parameters >>= (λ ps. supertypes supertype >>= (λ ss. members member >>= (λ ms.
-    pure (record { at = m.0; modifiers = m.1; name = name_of x; type_parameters = ts; parameters = ps; supertypes =
-        ss; members = ms }))))))
+    pure (record {
+      at = m.0;
+      modifiers = m.1;
+      name = name_of x;
+      type_parameters = ts;
+      parameters = ps;
+      supertypes = ss;
+      members = ms;
+    }))))))
 
 abbrev pub interface_rest : Token → Parser Token InterfaceTree
 interface_rest t = token is_identifier
@@ -179,7 +194,7 @@ declaration_parser =
     (on (is_soft_keyword soft.Enum) enum_rest
     (on (is_soft_keyword soft.Const) (λ t. constant_rest t >>= (λ c. pure (d.constant c)))
     (attempt class_word (λ m. class_rest m >>= (λ c. pure (d.class c)))
-        (function_parser at_top >>= (λ f. pure (d.function f))))))
+    (function_parser at_top >>= (λ f. pure (d.function f))))))
 
 unfoldable pub file_parser : Parser Token (List DeclarationTree)
 file_parser = separated is_end declaration_parser >>= (λ ds. pure ds.0)

@@ -20,8 +20,8 @@ use Rattle.kt_tree.specs.Types.{TypeTree}
 use Rattle.kt_tree.specs.Bodies.{ExpressionTree}
 use Rattle.kt_tree.specs.Declarations as d
 use Rattle.kt_tree.specs.Declarations.{TypeParameterTree, TypedParameterTree, FunctionBodyTree, FunctionTree, ConstructorParameterTree, SuperArgumentsTree, SupertypeTree, PropertyTree, MemberTree, ClassTree, InterfaceTree, ConstantTree, DeclarationTree}
-use Rattle.kt_grammar.specs.Phrases.{IsToken, Seq, Either, Loop, If, Where}
-use Rattle.kt_grammar.specs.Sentences.{IsSentence, IsRefusedAt, OneValue}
+use Rattle.kt_grammar_parsers.specs.Phrases.{IsToken, Seq, Either, Loop, If, Where}
+use Rattle.kt_grammar_parsers.specs.Sentences.{IsSentence, IsRefusedAt, OneValue}
 use Rattle.kt_grammar.specs.Terminals.{Meaning, means, nothing, name_of, is_end, is_open_quote, is_close_quote, literal_of, text_of, variable_of}
 use Rattle.kt_grammar.specs.Words.{Empty, Gives, IsSign, IsKeyword, IsSoftKeyword, IsIdentifier, IsMeant, IsLines, IsPast, Maybe, CommaList, MaybeCommaList, Several, Items, Directly}
 use Rattle.kt_grammar.specs.Types.{IsType, IsNamedType}
@@ -110,8 +110,10 @@ ModifierTurn Modifier Word m =
 -- fmod* 'fun'
 abbrev pub IsFun : Pos × FunctionModifiers → List Token → List Token → Type 0
 IsFun = Loop (ModifierTurn IsFunctionModifier (IsKeyword word.Fun))
-    (record { start = None; modifiers =
-    record { is_override = false; is_open = false; is_abstract = false; is_suspend = false } })
+    (record {
+      start = None;
+      modifiers = record { is_override = false; is_open = false; is_abstract = false; is_suspend = false };
+    })
 
 -- n block | '=' n expr
 -- A body behind `=` needs the result type.
@@ -137,9 +139,16 @@ IsFunction scope = Seq IsFun
     (λ x. Seq (IsSign sign.OpenParenthesis)
     (λ _. Seq (MaybeCommaList (is_sign sign.CloseParenthesis) IsTypedParameter) (λ ps.
     Seq (Maybe (is_sign sign.Colon) (IsType most_levels))
-        (λ r. Seq (If (has_body scope m.1) (Seq (IsFunctionBody (is_some r)) (λ b. Gives (Some b))) (Gives None)) (λ b.
-    Gives (record { at = m.0; modifiers = m.1; type_parameters = ts; name = name_of x; parameters = ps; result =
-        r; body = b }))))))))
+    (λ r. Seq (If (has_body scope m.1) (Seq (IsFunctionBody (is_some r)) (λ b. Gives (Some b))) (Gives None)) (λ b.
+    Gives (record {
+      at = m.0;
+      modifiers = m.1;
+      type_parameters = ts;
+      name = name_of x;
+      parameters = ps;
+      result = r;
+      body = b;
+    }))))))))
 
 -- ---- classes and interfaces
 
@@ -187,8 +196,13 @@ IsProperty = Seq (IsMeant variable_of)
     (λ var. Seq IsTypedParameter
     (λ p. Seq (IsSign sign.Assign)
     (λ _. Seq (IsPast (top.disjunction outside))
-    (λ a. Gives (record { at = var.0.pos; is_variable = var.1; name = p.name; annotation = p.annotation; initializer =
-    a })))))
+    (λ a. Gives (record {
+      at = var.0.pos;
+      is_variable = var.1;
+      name = p.name;
+      annotation = p.annotation;
+      initializer = a;
+    })))))
 
 -- member : fun | ('val' | 'var') ID ':' type '=' n expr
 abbrev pub IsMember : MemberTree → List Token → List Token → Type 0
@@ -212,8 +226,15 @@ IsClass = Seq IsClassWord
     (λ m. Seq IsIdentifier
     (λ x. Seq IsTypeParameters
     (λ ts. Seq IsConstructor (λ ps. Seq (IsSupertypes IsSupertype) (λ ss. Seq (IsMembers IsMember) (λ ms.
-    Gives (record { at = m.0; modifiers = m.1; name = name_of x; type_parameters = ts; parameters = ps; supertypes =
-        ss; members = ms })))))))
+    Gives (record {
+      at = m.0;
+      modifiers = m.1;
+      name = name_of x;
+      type_parameters = ts;
+      parameters = ps;
+      supertypes = ss;
+      members = ms;
+    })))))))
 
 -- iface : 'interface' ID tparams? (':' n super (',' n super)*)? (n '{' sep? (fun (sep fun)*)? sep? '}')?
 -- Its supertypes have no arguments.

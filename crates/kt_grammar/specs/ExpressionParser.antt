@@ -12,8 +12,8 @@ use Rattle.kt_tree.specs.Types.{TypeTree}
 use Rattle.kt_tree.specs.Bodies as e
 use Rattle.kt_tree.specs.Bodies.{ExpressionTree, PartTree, ParameterTree, StatementTree, BodyTree, BlockTree, EntryTree, ConditionTree, CatchTree, expressions_of, parts_of, entries_of, conditions_of, catches_of, statements_of, maybe_expression}
 use Rattle.kt_tree.specs.Levels.{levels, parts_levels}
-use Rattle.kt_grammar.specs.Parsers.{some_levels, Parser, ◌>>=◌, ◌>>◌, pure, token, on, attempt, attempt_if, ahead, repeat, chain}
-use Rattle.kt_grammar.specs.Terminals.{is_no_arrow, either, name_of, is_open_quote, is_close_quote, is_name_part, is_this_part, is_open_template, literal_of, text_of, disjunction_of, conjunction_of, equality_of, comparison_of, elvis_of, infix_of, additive_of, multiplicative_of, prefix_of, type_check_of, cast_of, member_of}
+use Rattle.kt_grammar_parsers.specs.Parsers.{some_levels, Parser, ◌>>=◌, ◌>>◌, pure, token, on, attempt, attempt_if, where_next, ahead, repeat, chain}
+use Rattle.kt_grammar.specs.Terminals.{begins_expression, is_no_arrow, opens_arguments, name_of, is_open_quote, is_close_quote, is_name_part, is_this_part, is_open_template, literal_of, text_of, disjunction_of, conjunction_of, equality_of, comparison_of, elvis_of, infix_of, additive_of, multiplicative_of, prefix_of, type_check_of, cast_of, member_of}
 use Rattle.kt_grammar.specs.Levels.{place, ends_in_name}
 use Rattle.kt_grammar.specs.declared.context.Context.{Context}
 use Rattle.kt_grammar.specs.Expressions.{in_lambda}
@@ -46,7 +46,7 @@ abbrev pub part_of : ℕ → Parser Token ExpressionTree → Parser Token PartTr
 part_of left expression = on_if (some_levels left) is_name_part (λ t. pure (e.name_part (name_of t)))
     (on_if (some_levels left) is_this_part (λ _. pure e.this_part)
     (on_if (some_levels left) is_open_template
-        (λ _. lines >> (expression >>= (λ a. lines >> (expect sign.CloseBrace >> pure (e.hole a)))))
+    (λ _. lines >> (expression >>= (λ a. lines >> (expect sign.CloseBrace >> pure (e.hole a)))))
     (meant text_of >>= (λ t. pure (e.text t.1)))))
 
 abbrev pub parameter_of : ℕ → Parser Token ParameterTree
@@ -106,7 +106,7 @@ module _ (room : ℕ) (below : Parsers) (at : Context) where
   if_rest t = expect sign.OpenParenthesis
       >> (below.disjunction at >>= (λ a. expect sign.CloseParenthesis >> (lines >> (below.body at >>= (λ b.
       attempt else_word (λ _. below.body at >>= (λ c. pure (e.if_else t.pos a b (e.some_body c))))
-          (pure (e.if_else t.pos a b e.no_body)))))))
+      (pure (e.if_else t.pos a b e.no_body)))))))
 
   abbrev pub subject : Parser Token (Option ExpressionTree)
   subject = on_if deep (is_sign sign.OpenParenthesis)
@@ -136,8 +136,8 @@ module _ (room : ℕ) (below : Parsers) (at : Context) where
   abbrev pub try_rest : Token → Parser Token ExpressionTree
   try_rest t = lines >> (block_of (below.statement at) >>= (λ b. repeat catch_turn [] >>= (λ cs.
       attempt finally_head
-          (λ _. block_rest (below.statement at) >>= (λ f. pure (e.try_catch t.pos b (catches_of cs) (e.some_block f))))
-          (no_finally t.pos b cs))))
+      (λ _. block_rest (below.statement at) >>= (λ f. pure (e.try_catch t.pos b (catches_of cs) (e.some_block f))))
+      (no_finally t.pos b cs))))
 
   abbrev pub primary : Parser Token ExpressionTree
   primary = on_if deep (is_sign sign.OpenParenthesis)
@@ -145,8 +145,9 @@ module _ (room : ℕ) (below : Parsers) (at : Context) where
       (on_if deep (is_keyword word.If) if_rest
       (on_if deep (is_keyword word.Throw) (λ t. below.disjunction at >>= (λ a. pure (e.throw t.pos a)))
       (on_if (not at.in_lambda) (is_keyword word.Return)
-          (λ t. attempt_if deep (below.disjunction at) (λ a. pure (e.return t.pos (e.some_expression a)))
-          (pure (e.return t.pos e.no_expression)))
+      (λ t. where_next begins_expression
+      (below.disjunction at >>= (λ a. pure (e.return t.pos (e.some_expression a))))
+      (pure (e.return t.pos e.no_expression)))
       (on_if at.in_loop (is_keyword word.Break) (λ t. pure (e.break t.pos))
       (on_if at.in_loop (is_keyword word.Continue) (λ t. pure (e.continue t.pos))
       (on (is_sign sign.OpenBrace) lambda_rest
@@ -160,30 +161,33 @@ module _ (room : ℕ) (below : Parsers) (at : Context) where
   -- behind '('
   abbrev pub arguments_rest : Parser Token (List ExpressionTree)
   arguments_rest = maybe_commas (is_sign sign.CloseParenthesis) (below.disjunction at)
-      >>= (λ es. attempt_if deep (below.lambda at) (λ l. pure (es ++ l ∷ [])) (pure es))
+      >>= (λ es. where_next (is_sign sign.OpenBrace) (below.lambda at >>= (λ l. pure (es ++ l ∷ []))) (pure es))
 
   -- a call behind its type arguments
   abbrev pub call_parser : Parser Token (List ExpressionTree)
   call_parser = on (is_sign sign.OpenParenthesis) (λ _. arguments_rest) (below.lambda at >>= (λ l. pure (l ∷ [])))
 
-  abbrev pub member : ExpressionTree → Parser Token ExpressionTree
-  member a = lines >> (meant member_of
-      >>= (λ safe. lines >> (token is_identifier >>= (λ x. pure (e.member (place a) a safe.1 (name_of x))))))
+  abbrev pub call_of : ExpressionTree → List TypeTree → Parser Token (ExpressionTree ⊎ ExpressionTree)
+  call_of a ts = call_parser >>= (λ es. pure (inl (called a ts es)))
 
-  abbrev pub suffix : ExpressionTree → Parser Token ExpressionTree
-  suffix a = on (is_sign sign.NotNull) (λ _. pure (e.not_null (place a) a))
-      (on_if deep (is_sign sign.OpenBracket)
-      (λ _. below.disjunction at >>= (λ i. expect sign.CloseBracket >> pure (e.index (place a) a i))) (member a))
+  -- behind '['
+  abbrev pub element : ExpressionTree → Parser Token (ExpressionTree ⊎ ExpressionTree)
+  element a = below.disjunction at >>= (λ i. expect sign.CloseBracket >> pure (inl (e.index (place a) a i)))
+
+  -- behind '.' or '?.'
+  abbrev pub member : ExpressionTree → Bool → Parser Token (ExpressionTree ⊎ ExpressionTree)
+  member a safe = lines >> (token is_identifier >>= (λ x. pure (inl (e.member (place a) a safe (name_of x)))))
 
   abbrev pub type_arguments_of_call : Parser Token (List TypeTree)
   type_arguments_of_call = type_arguments (type_parser room)
-      >>= (λ ts. ahead (either (is_sign sign.OpenParenthesis) (is_sign sign.OpenBrace)) >> pure ts)
+      >>= (λ ts. ahead opens_arguments >> pure ts)
 
   abbrev pub suffix_turn : ExpressionTree → Parser Token (ExpressionTree ⊎ ExpressionTree)
-  suffix_turn a = attempt_if (ends_in_name a) type_arguments_of_call
-      (λ ts. call_parser >>= (λ es. pure (inl (called a ts es))))
-      (attempt_if (has_call a) call_parser (λ es. pure (inl (called a [] es)))
-      (attempt_if (has_more a) (suffix a) (λ c. pure (inl c)) (pure (inr a))))
+  suffix_turn a = attempt_if (ends_in_name a) type_arguments_of_call (call_of a)
+      (attempt_if (has_call a) (ahead opens_arguments) (λ _. call_of a [])
+      (on_if (has_more a) (is_sign sign.NotNull) (λ _. pure (inl (e.not_null (place a) a)))
+      (on_if (has_more a) (is_sign sign.OpenBracket) (λ _. element a)
+      (attempt_if (has_more a) (lines >> meant member_of) (λ safe. member a safe.1) (pure (inr a))))))
 
   abbrev pub postfix : Parser Token ExpressionTree
   postfix = primary >>= (λ a. repeat suffix_turn a)

@@ -12,9 +12,9 @@ use Rattle.kt_tree.specs.Types.{TypeTree}
 use Rattle.kt_tree.specs.Bodies as e
 use Rattle.kt_tree.specs.Bodies.{ExpressionTree, PartTree, ParameterTree, StatementTree, BlockTree, EntryTree, ConditionTree, CatchTree, expressions_of, parts_of, entries_of, conditions_of, catches_of, statements_of, maybe_expression}
 use Rattle.kt_tree.specs.Levels.{levels, parts_levels}
-use Rattle.kt_grammar.specs.Parsers.{some_levels}
-use Rattle.kt_grammar.specs.Phrases.{Chain, IsToken, Seq, Either, Loop, If, Where, WhereRoom, IsAhead}
-use Rattle.kt_grammar.specs.Terminals.{is_no_arrow, either, name_of, is_open_quote, is_close_quote, is_name_part, is_this_part, is_open_template, literal_of, text_of, disjunction_of, conjunction_of, equality_of, comparison_of, elvis_of, infix_of, additive_of, multiplicative_of, prefix_of, type_check_of, cast_of, member_of}
+use Rattle.kt_grammar_parsers.specs.Parsers.{some_levels}
+use Rattle.kt_grammar_parsers.specs.Phrases.{Chain, IsToken, Seq, Either, Loop, If, Where, WhereNext, WhereRoom, IsAhead}
+use Rattle.kt_grammar.specs.Terminals.{begins_expression, is_no_arrow, opens_arguments, name_of, is_open_quote, is_close_quote, is_name_part, is_this_part, is_open_template, literal_of, text_of, disjunction_of, conjunction_of, equality_of, comparison_of, elvis_of, infix_of, additive_of, multiplicative_of, prefix_of, type_check_of, cast_of, member_of}
 use Rattle.kt_grammar.specs.Words.{Empty, Gives, IsSign, IsKeyword, IsSoftKeyword, IsIdentifier, IsMeant, IsLines, IsPast, Maybe, MaybeCommaList, Several, Items, Directly}
 use Rattle.kt_grammar.specs.Types.{IsType, IsTypeArguments}
 use Rattle.kt_grammar.specs.Levels.{Phrases, place, ends_in_name}
@@ -30,7 +30,7 @@ IsPart left Expression =
     Either (If (some_levels left) (Seq (IsToken is_name_part) (λ t. Gives (e.name_part (name_of t)))) Empty)
     (Either (If (some_levels left) (Seq (IsToken is_this_part) (λ _. Gives e.this_part)) Empty)
     (Either (Seq (IsToken is_open_template)
-        (λ _. Seq (IsPast Expression) (λ a. Seq (IsPast (IsSign sign.CloseBrace)) (λ _. Gives (e.hole a)))))
+    (λ _. Seq (IsPast Expression) (λ a. Seq (IsPast (IsSign sign.CloseBrace)) (λ _. Gives (e.hole a)))))
     (Seq (IsMeant text_of) (λ t. Gives (e.text t.1)))))
 
 -- ---- lambda literals
@@ -109,7 +109,7 @@ module _ (room : ℕ) (below : Phrases) (at : Context) where
       (λ t. Seq (IsSign sign.OpenParenthesis)
       (λ _. Seq (below.disjunction at) (λ a. Seq (IsSign sign.CloseParenthesis) (λ _. Seq (IsPast (below.body at)) (λ b.
       Where IsElse (λ _. Seq (below.body at) (λ c. Gives (e.if_else t.pos a b (e.some_body c))))
-          (Gives (e.if_else t.pos a b e.no_body)))))))
+      (Gives (e.if_else t.pos a b e.no_body)))))))
 
   -- ('(' expr ')')?
   abbrev pub IsSubject : Option ExpressionTree → List Token → List Token → Type 0
@@ -147,18 +147,19 @@ module _ (room : ℕ) (below : Phrases) (at : Context) where
   IsTry = Seq (IsKeyword word.Try)
       (λ t. Seq (IsPast (IsBlock (below.statement at))) (λ b. Seq (Loop CatchTurn []) (λ cs.
       Where IsFinallyHead (λ _. Seq (IsBlockRest (below.statement at))
-          (λ f. Gives (e.try_catch t.pos b (catches_of cs) (e.some_block f)))) (IsNoFinally t.pos b cs))))
+      (λ f. Gives (e.try_catch t.pos b (catches_of cs) (e.some_block f)))) (IsNoFinally t.pos b cs))))
 
   -- 'throw' expr
   abbrev pub IsThrow : ExpressionTree → List Token → List Token → Type 0
   IsThrow = Seq (IsKeyword word.Throw) (λ t. Seq (below.disjunction at) (λ a. Gives (e.throw t.pos a)))
 
   -- 'return' expr?
-  -- It takes an expression where one follows, and doesn't stand in a lambda.
+  -- It takes an expression where the next token begins one, and doesn't stand in a lambda.
   abbrev pub IsReturn : ExpressionTree → List Token → List Token → Type 0
   IsReturn = If (not at.in_lambda)
       (Seq (IsKeyword word.Return)
-      (λ t. Where (below.disjunction at) (λ a. Gives (e.return t.pos (e.some_expression a)))
+      (λ t. WhereNext begins_expression
+      (Seq (below.disjunction at) (λ a. Gives (e.return t.pos (e.some_expression a))))
       (Gives (e.return t.pos e.no_expression)))) Empty
 
   -- 'break', in a loop
@@ -176,11 +177,11 @@ module _ (room : ℕ) (below : Phrases) (at : Context) where
       (Either IsLambda (Either IsWhen (Either IsTry (Either IsString (Either IsThis (Either IsName IsLiteral)))))))))))
 
   -- '(' args? ')' lambda?      args : expr (',' expr)*
-  -- A lambda that follows is the last argument.
+  -- A lambda that follows is the last argument; it follows where a `{` does.
   abbrev pub IsArguments : List ExpressionTree → List Token → List Token → Type 0
   IsArguments = Seq (IsSign sign.OpenParenthesis)
       (λ _. Seq (MaybeCommaList (is_sign sign.CloseParenthesis) (below.disjunction at))
-      (λ es. Where (below.lambda at) (λ l. Gives (es ++ l ∷ [])) (Gives es)))
+      (λ es. WhereNext (is_sign sign.OpenBrace) (Seq (below.lambda at) (λ l. Gives (es ++ l ∷ []))) (Gives es)))
 
   -- call : '(' args? ')' lambda? | lambda, behind its type arguments
   abbrev pub IsCall : List ExpressionTree → List Token → List Token → Type 0
@@ -197,27 +198,33 @@ module _ (room : ℕ) (below : Phrases) (at : Context) where
   abbrev pub has_more : ExpressionTree → Bool
   has_more a = nat_lt (levels a) room
 
-  -- suffix : '!!' | '[' expr ']' | n ('.' | '?.') n ID, beside a call
-  abbrev pub IsSuffix : ExpressionTree → ExpressionTree → List Token → List Token → Type 0
-  IsSuffix a = Either (Seq (IsSign sign.NotNull) (λ _. Gives (e.not_null (place a) a)))
-      (Either (Seq (IsSign sign.OpenBracket)
-          (λ _. Seq (below.disjunction at) (λ i. Seq (IsSign sign.CloseBracket) (λ _. Gives (e.index (place a) a i)))))
-      (Seq (IsPast (IsMeant member_of))
-          (λ safe. Seq (IsPast IsIdentifier) (λ x. Gives (e.member (place a) a safe.1 (name_of x))))))
+  -- a call with these type arguments
+  abbrev pub IsCallOf : ExpressionTree → List TypeTree → ExpressionTree ⊎ ExpressionTree → List Token → List Token
+      → Type 0
+  IsCallOf a ts = Seq IsCall (λ es. Gives (inl (called a ts es)))
+
+  -- '[' expr ']', behind its '['
+  abbrev pub IsElement : ExpressionTree → ExpressionTree ⊎ ExpressionTree → List Token → List Token → Type 0
+  IsElement a = Seq (below.disjunction at)
+      (λ i. Seq (IsSign sign.CloseBracket) (λ _. Gives (inl (e.index (place a) a i))))
+
+  -- n ('.' | '?.') n ID, behind the sign
+  abbrev pub IsMember : ExpressionTree → Bool → ExpressionTree ⊎ ExpressionTree → List Token → List Token → Type 0
+  IsMember a safe = Seq (IsPast IsIdentifier) (λ x. Gives (inl (e.member (place a) a safe (name_of x))))
 
   -- targs, and then '(' or '{'
   abbrev pub IsTypeArgumentsOfCall : List TypeTree → List Token → List Token → Type 0
-  IsTypeArgumentsOfCall =
-      Seq (IsTypeArguments (IsType room))
-      (λ ts. Seq (IsAhead (either (is_sign sign.OpenParenthesis) (is_sign sign.OpenBrace))) (λ _. Gives ts))
+  IsTypeArgumentsOfCall = Seq (IsTypeArguments (IsType room)) (λ ts. Seq (IsAhead opens_arguments) (λ _. Gives ts))
 
-  -- Where a name is followed by tokens that read as type arguments and then `(` or `{`, they are read so. As many suffixes are
-  -- taken as follow.
+  -- suffix : '!!' | call | '[' expr ']' | n ('.' | '?.') n ID      call : targs? ('(' args? ')' lambda? | lambda)
+  -- As many suffixes are taken as follow: one follows where its first token does. Where a name is followed by tokens that
+  -- read as type arguments and then `(` or `{`, they are read so.
   abbrev pub SuffixTurn : ExpressionTree → ExpressionTree ⊎ ExpressionTree → List Token → List Token → Type 0
-  SuffixTurn a = WhereRoom (ends_in_name a) IsTypeArgumentsOfCall
-      (λ ts. Seq IsCall (λ es. Gives (inl (called a ts es))))
-      (WhereRoom (has_call a) IsCall (λ es. Gives (inl (called a [] es)))
-      (WhereRoom (has_more a) (IsSuffix a) (λ c. Gives (inl c)) (Gives (inr a))))
+  SuffixTurn a = WhereRoom (ends_in_name a) IsTypeArgumentsOfCall (IsCallOf a)
+      (WhereRoom (has_call a) (IsAhead opens_arguments) (λ _. IsCallOf a [])
+      (WhereRoom (has_more a) (IsSign sign.NotNull) (λ _. Gives (inl (e.not_null (place a) a)))
+      (WhereRoom (has_more a) (IsSign sign.OpenBracket) (λ _. IsElement a)
+      (WhereRoom (has_more a) (IsPast (IsMeant member_of)) (λ safe. IsMember a safe.1) (Gives (inr a))))))
 
   -- postfix : primary suffix*
   abbrev pub IsPostfix : ExpressionTree → List Token → List Token → Type 0

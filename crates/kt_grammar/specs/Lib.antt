@@ -1,6 +1,3 @@
-pub mod Parsers
-pub mod Phrases
-pub mod Sentences
 pub mod Terminals
 pub mod Words
 pub mod Types
@@ -8,7 +5,6 @@ pub mod Levels
 pub mod Expressions
 pub mod Statements
 pub mod Declarations
-pub mod Cursors
 pub mod Readers
 pub mod ExpressionParser
 pub mod StatementParser

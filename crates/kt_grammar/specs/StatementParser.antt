@@ -7,7 +7,7 @@ use Rattle.kt_tree.specs.Tokens.{is_keyword, is_sign, is_identifier}
 use Rattle.kt_tree.specs.Bodies as e
 use Rattle.kt_tree.specs.Bodies.{ExpressionTree, StatementTree, BodyTree, EntryTree, ConditionTree, CatchTree, conditions_of, maybe_expression}
 use Rattle.kt_tree.specs.Levels.{levels}
-use Rattle.kt_grammar.specs.Parsers.{some_levels, first, Parser, ◌>>=◌, ◌>>◌, pure, token, on, attempt_if}
+use Rattle.kt_grammar_parsers.specs.Parsers.{some_levels, first, Parser, ◌>>=◌, ◌>>◌, pure, token, on, attempt_if}
 use Rattle.kt_grammar.specs.Terminals.{name_of, variable_of, assignment_of, step_of, range_of, type_check_of}
 use Rattle.kt_grammar.specs.Levels.{place, is_target}
 use Rattle.kt_grammar.specs.declared.context.Context.{Context}
@@ -63,7 +63,7 @@ module _ (room : ℕ) (below : Parsers) (at : Context) where
       >>= (λ name. token (is_keyword word.In)
       >> (below.additive at >>= (λ a. meant range_of >>= (λ o. below.additive at >>= (λ b.
       expect sign.CloseParenthesis
-          >> (lines >> (below.body (in_loop at) >>= (λ body. pure (e.for t.pos (name_of name) a o.1 b body))))))))))
+      >> (lines >> (below.body (in_loop at) >>= (λ body. pure (e.for t.pos (name_of name) a o.1 b body))))))))))
 
   -- no statement begins with `{`
   abbrev pub statement_parser : Parser Token StatementTree

@@ -6,8 +6,8 @@ use Rattle.kt_tree.specs.declared.tokens.Keyword.TheVariants as word
 use Rattle.kt_tree.specs.Tokens.{is_sign}
 use Rattle.kt_tree.specs.Bodies as e
 use Rattle.kt_tree.specs.Bodies.{ExpressionTree, StatementTree, BodyTree, EntryTree, ConditionTree, CatchTree, conditions_of, maybe_expression}
-use Rattle.kt_grammar.specs.Parsers.{some_levels, first}
-use Rattle.kt_grammar.specs.Phrases.{Seq, Either, If, WhereRoom}
+use Rattle.kt_grammar_parsers.specs.Parsers.{some_levels, first}
+use Rattle.kt_grammar_parsers.specs.Phrases.{Seq, Either, If, WhereRoom}
 use Rattle.kt_grammar.specs.Terminals.{name_of, variable_of, assignment_of, step_of, range_of, type_check_of}
 use Rattle.kt_grammar.specs.Words.{Empty, Gives, IsSign, IsKeyword, IsIdentifier, IsMeant, IsPast, Maybe, Several, Directly}
 use Rattle.kt_grammar.specs.Types.{IsType}
@@ -40,7 +40,7 @@ module _ (room : ℕ) (below : Phrases) (at : Context) where
       (λ a. WhereRoom (is_target a && x.has_more room below at a) (IsMeant assignment_of)
       (λ o. Seq (IsPast (below.disjunction at)) (λ b. Gives (e.assign (place a) a o.1 b)))
       (WhereRoom (is_target a && x.has_more room below at a) (IsMeant step_of) (λ o. Gives (e.step (place a) a o.1))
-          (Gives (e.evaluate (place a) a))))
+      (Gives (e.evaluate (place a) a))))
 
   -- 'while' '(' expr ')' n body
   abbrev pub IsWhile : StatementTree → List Token → List Token → Type 0
@@ -66,7 +66,7 @@ module _ (room : ℕ) (below : Phrases) (at : Context) where
       (λ name. Seq (IsKeyword word.In)
       (λ _. Seq (below.additive at) (λ a. Seq (IsMeant range_of) (λ o. Seq (below.additive at) (λ b.
       Seq (IsSign sign.CloseParenthesis)
-          (λ _. Seq (IsPast (below.body (in_loop at))) (λ body. Gives (e.for t.pos (name_of name) a o.1 b body))))))))))
+      (λ _. Seq (IsPast (below.body (in_loop at))) (λ body. Gives (e.for t.pos (name_of name) a o.1 b body))))))))))
 
   -- stmt : ('val' | 'var') .. | target .. | 'while' .. | 'do' .. | 'for' .. | expr
   -- No statement begins with `{`.

@@ -6,6 +6,7 @@ use Rattle.kt_tree.specs.declared.tokens.TokenKind.{TokenKind}
 use Rattle.kt_tree.specs.declared.tokens.TokenKind.TheVariants as kind
 use Rattle.kt_tree.specs.declared.tokens.Keyword.{Keyword}
 use Rattle.kt_tree.specs.declared.tokens.Keyword.TheVariants as word
+use Rattle.kt_tree.specs.declared.tokens.Sign.{Sign}
 use Rattle.kt_tree.specs.declared.tokens.Sign.TheVariants as sign
 use Rattle.kt_tree.specs.declared.tokens.SoftKeyword.TheVariants as soft
 use Rattle.kt_tree.specs.declared.bodies.Literal.{Literal}
@@ -22,8 +23,6 @@ use Rattle.kt_tree.specs.declared.bodies.StepOperator.{StepOperator}
 use Rattle.kt_tree.specs.declared.bodies.StepOperator.TheVariants as step
 use Rattle.kt_tree.specs.declared.bodies.RangeOperator.{RangeOperator}
 use Rattle.kt_tree.specs.declared.bodies.RangeOperator.TheVariants as range
-use Rattle.kt_grammar.specs.declared.classes.TokenClass.{TokenClass}
-use Rattle.kt_grammar.specs.declared.classes.TokenClass.TheVariants as class
 use Rattle.kt_tree.specs.Tokens.{is_keyword, is_sign, is_soft_keyword, is_new_line}
 
 -- one of two
@@ -37,6 +36,47 @@ is_separator = either is_new_line (is_sign sign.Semicolon)
 -- any token but `->`
 abbrev pub is_no_arrow : Token → Bool
 is_no_arrow token = not (is_sign sign.Arrow token)
+
+-- what the arguments of a call begin with, behind its type arguments
+abbrev pub opens_arguments : Token → Bool
+opens_arguments = either (is_sign sign.OpenParenthesis) (is_sign sign.OpenBrace)
+
+-- ---- with which tokens expressions begin
+
+abbrev pub keyword_begins_expression : Keyword → Bool
+keyword_begins_expression word.Break = true
+keyword_begins_expression word.Continue = true
+keyword_begins_expression word.False = true
+keyword_begins_expression word.If = true
+keyword_begins_expression word.Null = true
+keyword_begins_expression word.Return = true
+keyword_begins_expression word.This = true
+keyword_begins_expression word.Throw = true
+keyword_begins_expression word.True = true
+keyword_begins_expression word.Try = true
+keyword_begins_expression word.When = true
+keyword_begins_expression _ = false
+
+abbrev pub sign_begins_expression : Sign → Bool
+sign_begins_expression sign.Minus = true
+sign_begins_expression sign.Not = true
+sign_begins_expression sign.OpenParenthesis = true
+sign_begins_expression sign.OpenBrace = true
+sign_begins_expression _ = false
+
+abbrev pub kind_begins_expression : TokenKind → Bool
+kind_begins_expression (kind.Identifier name) = true
+kind_begins_expression (kind.Keyword k) = keyword_begins_expression k
+kind_begins_expression (kind.Number n) = true
+kind_begins_expression (kind.Character unit) = true
+kind_begins_expression (kind.Sign s) = sign_begins_expression s
+kind_begins_expression kind.OpenQuote = true
+kind_begins_expression _ = false
+
+abbrev pub begins_expression : Token → Bool
+begins_expression token = kind_begins_expression token.kind
+
+-- ---- names
 
 -- the spelling of an identifier, or of the name in a string
 abbrev pub kind_name : TokenKind → List ℕ
@@ -104,20 +144,6 @@ is_this_part token = kind_is_this_part token.kind
 abbrev pub is_open_template : Token → Bool
 is_open_template token = kind_is_open_template token.kind
 
--- ---- classes of tokens
-
-abbrev pub is_of : TokenClass → Token → Bool
-is_of class.Separator = is_separator
-is_of class.CloseBrace = is_sign sign.CloseBrace
-is_of class.End = is_end
-is_of class.OpensArguments = either (is_sign sign.OpenParenthesis) (is_sign sign.OpenBrace)
-is_of class.NoArrow = is_no_arrow
-is_of class.OpenQuote = is_open_quote
-is_of class.CloseQuote = is_close_quote
-is_of class.NamePart = is_name_part
-is_of class.ThisPart = is_this_part
-is_of class.OpenTemplate = is_open_template
-
 -- ---- tokens that stand for a value
 
 -- what a token stands for, where it stands for something
@@ -158,7 +184,7 @@ abbrev pub infix_of : Meaning BinaryOperator
 infix_of = means (is_soft_keyword soft.And) binary.And
     (means (is_soft_keyword soft.Or) binary.Or (means (is_soft_keyword soft.Xor) binary.Xor
     (means (is_soft_keyword soft.Shl) binary.Shl
-        (means (is_soft_keyword soft.Shr) binary.Shr (means (is_soft_keyword soft.Ushr) binary.Ushr nothing)))))
+    (means (is_soft_keyword soft.Shr) binary.Shr (means (is_soft_keyword soft.Ushr) binary.Ushr nothing)))))
 
 abbrev pub additive_of : Meaning BinaryOperator
 additive_of = means (is_sign sign.Plus) binary.Plus (means (is_sign sign.Minus) binary.Minus nothing)
@@ -190,8 +216,8 @@ abbrev pub assignment_of : Meaning AssignmentOperator
 assignment_of = means (is_sign sign.Assign) assignment.Set
     (means (is_sign sign.PlusAssign) assignment.Add (means (is_sign sign.MinusAssign) assignment.Subtract
     (means (is_sign sign.TimesAssign) assignment.Multiply
-        (means (is_sign sign.DivideAssign) assignment.Divide
-        (means (is_sign sign.RemainderAssign) assignment.Remainder nothing)))))
+    (means (is_sign sign.DivideAssign) assignment.Divide
+    (means (is_sign sign.RemainderAssign) assignment.Remainder nothing)))))
 
 abbrev pub step_of : Meaning StepOperator
 step_of = means (is_sign sign.Increment) step.Increment (means (is_sign sign.Decrement) step.Decrement nothing)

@@ -5,8 +5,8 @@ use Rattle.kt_tree.specs.declared.tokens.Sign.TheVariants as sign
 use Rattle.kt_tree.specs.declared.tokens.SoftKeyword.TheVariants as soft
 use Rattle.kt_tree.specs.Tokens.{is_sign}
 use Rattle.kt_tree.specs.Types.{TypeTree, named, function, nullable, parenthesized, types_of}
-use Rattle.kt_grammar.specs.Parsers.{some_levels}
-use Rattle.kt_grammar.specs.Phrases.{Seq, Either, Where, WhereRoom, IsAhead}
+use Rattle.kt_grammar_parsers.specs.Parsers.{some_levels}
+use Rattle.kt_grammar_parsers.specs.Phrases.{Seq, Either, Where, WhereRoom, IsAhead}
 use Rattle.kt_grammar.specs.Words.{Empty, Gives, IsSign, IsSoftKeyword, IsIdentifier, CommaList, MaybeCommaList}
 use Rattle.kt_grammar.specs.Terminals.{name_of}
 

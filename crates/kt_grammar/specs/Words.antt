@@ -6,8 +6,8 @@ use Rattle.kt_tree.specs.declared.tokens.Sign.TheVariants as sign
 use Rattle.kt_tree.specs.declared.tokens.Keyword.{Keyword}
 use Rattle.kt_tree.specs.declared.tokens.SoftKeyword.{SoftKeyword}
 use Rattle.kt_tree.specs.Tokens.{is_keyword, is_sign, is_soft_keyword, is_new_line, is_identifier}
-use Rattle.kt_grammar.specs.Phrases as p
-use Rattle.kt_grammar.specs.Phrases.{IsNothing, IsToken, IsSkipped, Seq, FirstOf}
+use Rattle.kt_grammar_parsers.specs.Phrases as p
+use Rattle.kt_grammar_parsers.specs.Phrases.{IsNothing, IsToken, IsSkipped, Seq, FirstOf}
 use Rattle.kt_grammar.specs.Terminals.{Meaning, is_separator}
 
 -- which tokens spell which value, where certain tokens follow

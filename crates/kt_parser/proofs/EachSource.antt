@@ -8,7 +8,7 @@ use Rattle.kt_base.specs.declared.refusals.Refusal.{Refusal}
 use Rattle.kt_tree.specs.declared.tokens.Token.{Token}
 use Rattle.kt_tree.specs.Declarations.{DeclarationTree}
 use Rattle.kt_tree.specs.Tokens.{ends_alone}
-use Rattle.kt_grammar.specs.Parsers.{Outcome, cursor}
+use Rattle.kt_grammar_parsers.specs.Parsers.{Outcome, cursor}
 use Rattle.kt_grammar.specs.Declarations.{IsFileOf}
 use Rattle.kt_grammar.specs.DeclarationParser.{file_parser}
 use Rattle.kt_lexer.specs.Sources.{AreTokensOfSource, IsSourceRefused}

@@ -10,17 +10,17 @@ use Rattle.kt_base.specs.declared.refusals.FrontErr.TheVariants as front_err
 use Rattle.kt_tree.specs.declared.declarations.FileTree.{FileTree}
 use Rattle.kt_tree.specs.declared.tokens.Token.{Token}
 use Rattle.kt_tree.specs.Declarations.{DeclarationTree}
-use Rattle.kt_grammar.specs.Parsers.{Cursor, Outcome, cursor}
-use Rattle.kt_grammar.specs.Phrases.{Loop, ends, turns, ItemTurn}
+use Rattle.kt_grammar_parsers.specs.Parsers.{Cursor, Outcome, cursor}
+use Rattle.kt_grammar_parsers.specs.Phrases.{Loop, ends, turns, ItemTurn}
 use Rattle.kt_grammar.specs.Terminals.{is_end, is_separator}
-use Rattle.kt_grammar.specs.Sentences.{IsSentence, IsPrefix, IsRefusedAt}
+use Rattle.kt_grammar_parsers.specs.Sentences.{IsSentence, IsPrefix, IsRefusedAt}
 use Rattle.kt_grammar.specs.Declarations.{IsDeclaration, IsFile, IsFileOf, IsFileRefusedAt, most_levels}
 use Rattle.kt_grammar.specs.DeclarationParser.{file_parser}
-use Rattle.kt_grammar.proofs.Ends.{Tied}
-use Rattle.kt_grammar.proofs.FunctionsRead.{Expressions, Statements}
-use Rattle.kt_grammar.proofs.FilesRead.{expressions_are_read, statements_are_read, file_correct, read_is_file_over}
-use Rattle.kt_grammar.proofs.FileLaws.{file_is_read, file_is_refused}
-use Rattle.kt_grammar.proofs.LevelsRead.{levels_read}
+use Rattle.kt_grammar_parsers.proofs.Ends.{Tied}
+use Rattle.kt_grammar.proofs.declarations.FunctionsRead.{Expressions, Statements}
+use Rattle.kt_grammar.proofs.declarations.FilesRead.{expressions_are_read, statements_are_read, file_correct, read_is_file_over}
+use Rattle.kt_grammar.proofs.declarations.FileLaws.{file_is_read, file_is_refused}
+use Rattle.kt_grammar.proofs.statements.LevelsRead.{levels_read}
 use Rattle.kt_tree.specs.Tokens.{ends_alone}
 use Rattle.kt_parser.specs.Trees.{IsPlaceAt, IsSyntaxRefused}
 

@@ -3,7 +3,7 @@ use Rattle.std.proofs.Common.{◌≡◌, ℕ, List, refl, ap, subst, arith, inl,
 use Rattle.kt_base.specs.declared.refusals.Refusal.{Refusal}
 use Rattle.kt_tree.specs.declared.tokens.Token.{Token}
 use Rattle.kt_grammar.specs.Declarations.{IsFileOf}
-use Rattle.kt_grammar.proofs.FileLaws.{one_tree}
+use Rattle.kt_grammar.proofs.declarations.FileLaws.{one_tree}
 use Rattle.kt_lexer.specs.Sources.{AreTokensOfSource, IsSourceRefused, too_long, no_token, no_text, IsBrokenOff, within, at_its_end, lex_refusal}
 use Rattle.kt_lexer.proofs.Whole.{one_tokens, tokens_exclude_refusal}
 use Rattle.kt_lexer.proofs.Whole as lexer

@@ -9,8 +9,8 @@ ghost use Rattle.kt_tree.specs.Declarations.{DeclarationTree, file_tree};
 ghost use Rattle.std.specs.Prelude.{◌≡◌, ◌⊎◌, ◌<◌, ◌-◌, Err, IfOk, List, MatchResult, length, true};
 
 use kt_base::{FrontErr, Kind, Pos, Refusal};
-use kt_grammar::{ParseError, Tokens};
 use kt_parser_declarations::read_file;
+use kt_parser_steps::{ParseError, Tokens};
 use kt_tree::{FileTree, Token};
 use kt_tree_nodes::declarations::file;
 use std::alloc::Global;

@@ -4,18 +4,18 @@ use Rattle.kt_base.specs.declared.refusals.Pos.{Pos}
 use Rattle.kt_tree.specs.declared.tokens.Token.{Token}
 use Rattle.kt_tree.specs.declared.tokens.Sign.TheVariants as sign
 use Rattle.kt_tree.specs.declared.bodies.Expression.{Expression}
-use Rattle.kt_tree.specs.Tokens.{is_sign}
+use Rattle.kt_tree.specs.Tokens.{is_new_line, is_sign}
 use Rattle.kt_tree.specs.Bodies as e
 use Rattle.kt_tree.specs.Bodies.{ExpressionTree, EntryTree, expression_tree}
 use Rattle.kt_grammar.specs.declared.context.Context.{Context}
-use Rattle.kt_grammar.specs.Parsers.{Cursor, Parser, further, some_levels, pure, ◌>>=◌}
-use Rattle.kt_grammar.specs.Readers.{separated}
+use Rattle.kt_grammar_parsers.specs.Parsers.{Cursor, Parser, further, skip, some_levels, pure, ◌>>=◌}
+use Rattle.kt_grammar.specs.Readers.{expect, separated}
 use Rattle.kt_grammar.specs.ExpressionParser.{Parsers}
 use Rattle.kt_grammar.specs.StatementParser as s
 use Rattle.kt_grammar.specs.StatementParser.{parsers, refused_if}
 use Rattle.kt_parser_steps.specs.Steps.{given, place_of}
 use Rattle.kt_parser_steps.proofs.SeparatedItems.{placed_ok, placed_err}
-use Rattle.kt_parser_steps.proofs.Ways.{has_room}
+use Rattle.kt_parser_steps.proofs.Ways.{levels_left}
 use Rattle.kt_parser_blocks.specs.Rules as rules
 use Rattle.kt_parser_blocks.proofs.Depth.{levels_are, above}
 
@@ -51,7 +51,13 @@ module _ (n m : ℕ) (h : m + 1 ≡ n) (at : Context) (c : Cursor Token) where
   -- where a level is left for its body
   pub entry_over : (subject : Bool) → 0 < m → (parsers n).entry at subject c ≡ rules.entry m at subject c
   entry_over subject deep = ap (λ (z : Parsers). z.entry at subject c) (above n m h)
-      ∙ ap (λ (b : Bool). refused_if (not b) (rules.entry m at subject) c) (ap some_levels (levels_are m) ∙ has_room m deep)
+      ∙ ap (λ (b : Bool). refused_if (not b) (rules.entry m at subject) c) (ap some_levels (levels_are m) ∙ levels_left m deep)
+
+-- ---- a `when` up to its `{`
+
+module _ (n : ℕ) (at : Context) (t : Token) (c c1 : Cursor Token) (subject : Option ExpressionTree) (e : rules.subject n at c ≡ Ok (subject, c1)) where
+  pub when_opens : (c2 : Cursor Token) → skip is_new_line c1 ≡ Ok (tt, c2) → (brace : Token) (c3 : Cursor Token) → expect sign.OpenBrace c2 ≡ Ok (brace, c3) → rules.when_rest n at t c ≡ rules.entries_rest n at t subject c3
+  when_opens c2 skipped brace c3 opened = rw e (rw skipped (rw opened refl))
 
 -- ---- the entries of a `when`, in the code's order
 

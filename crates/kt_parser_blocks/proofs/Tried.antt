@@ -4,7 +4,7 @@ use Rattle.kt_tree.specs.declared.tokens.Token.{Token}
 use Rattle.kt_tree.specs.declared.bodies.CatchBlock.{CatchBlock}
 use Rattle.kt_tree.specs.Bodies.{BlockTree, CatchTree, catch_tree}
 use Rattle.kt_grammar.specs.declared.context.Context.{Context}
-use Rattle.kt_grammar.specs.Parsers.{Cursor}
+use Rattle.kt_grammar_parsers.specs.Parsers.{Cursor}
 use Rattle.kt_grammar.specs.ExpressionParser as p
 use Rattle.kt_grammar.specs.StatementParser.{parsers}
 use Rattle.kt_grammar.specs.Terminals.{name_of}

@@ -7,8 +7,8 @@ use Rattle.kt_tree.specs.declared.bodies.Expression.{Expression}
 use Rattle.kt_tree.specs.declared.bodies.Statement.{Statement}
 use Rattle.kt_tree.specs.Bodies.{expression_tree, statement_tree}
 use Rattle.kt_grammar.specs.declared.context.Context.{Context}
-use Rattle.kt_grammar.specs.declared.error.ParseError.{ParseError}
-use Rattle.kt_grammar.specs.Parsers.{Cursor}
+use Rattle.kt_parser_steps.specs.declared.error.ParseError.{ParseError}
+use Rattle.kt_grammar_parsers.specs.Parsers.{Cursor}
 use Rattle.kt_grammar.specs.StatementParser.{parsers}
 use Rattle.kt_parser_steps.specs.Steps.{ReadsAs}
 use Rattle.kt_parser_blocks.specs.declared.below.Precedence.{Precedence}

@@ -11,7 +11,7 @@ use Rattle.kt_tree.specs.Bodies.{ExpressionTree, ParameterTree, BodyTree, BlockT
 use Rattle.kt_tree.specs.Levels.{levels}
 use Rattle.kt_grammar.specs.declared.context.Context.{Context}
 use Rattle.kt_grammar.specs.Declarations.{outside}
-use Rattle.kt_grammar.specs.Parsers.{Parser, some_levels, ◌>>=◌, ◌>>◌, pure, token, on, ahead, attempt, attempt_if, repeat}
+use Rattle.kt_grammar_parsers.specs.Parsers.{Parser, some_levels, ◌>>=◌, ◌>>◌, pure, token, on, ahead, attempt, attempt_if, repeat}
 use Rattle.kt_grammar.specs.Terminals.{name_of, is_no_arrow}
 use Rattle.kt_grammar.specs.Readers.{refuse, lines, expect, separated, type_parser}
 use Rattle.kt_grammar.specs.ExpressionParser as p
@@ -34,8 +34,8 @@ expression precedence.Cast n = (parsers n).cast
 expression precedence.Prefix n = (parsers n).prefix
 
 -- there is room for a level above
-abbrev pub has_room : ℕ → ExpressionTree → Bool
-has_room n a = nat_lt (levels a) (suc n)
+abbrev pub has_more : ℕ → ExpressionTree → Bool
+has_more n a = nat_lt (levels a) (suc n)
 
 -- ---- lambda literals, which are the same in each context
 
@@ -99,8 +99,11 @@ module _ (n : ℕ) (at : Context) where
   entry subject = entry_head subject >>= s.entry_rest (suc n) (parsers n) at
 
   -- the entries of a `when`, and the `}`
+  abbrev pub entries : Bool → Parser Token (List EntryTree × Token)
+  entries subject = separated (is_sign sign.CloseBrace) ((parsers n).entry at subject)
+
   abbrev pub entries_rest : Token → Option ExpressionTree → Parser Token ExpressionTree
-  entries_rest t a = separated (is_sign sign.CloseBrace) ((parsers n).entry at (is_some a))
+  entries_rest t a = entries (is_some a)
       >>= (λ es. pure (e.when t.pos (e.maybe_expression a) (e.entries_of es.0)))
 
   abbrev pub when_rest : Token → Parser Token ExpressionTree

@@ -7,12 +7,13 @@ ghost use Rattle.kt_parser_blocks.specs.Below.{AreRead};
 ghost use Rattle.kt_grammar.specs.StatementParser.{parsers};
 ghost use Rattle.kt_parser_steps.specs.Steps.{ReadsAs};
 ghost use Rattle.kt_tree.specs.Bodies.{expression_tree, statement_tree};
-ghost use Rattle.kt_parser_blocks.specs.Rules.{expression, has_room};
-ghost use Rattle.kt_grammar.specs.Parsers.{some_levels};
+ghost use Rattle.kt_parser_blocks.specs.Rules.{expression, has_more};
+ghost use Rattle.kt_grammar_parsers.specs.Parsers.{some_levels};
 ghost use Rattle.kt_tree.specs.Levels.{levels};
 ghost use Rattle.std.specs.Prelude.{◌≡◌, ◌+◌, ◌<◌};
 
-use kt_grammar::{Context, ParseError, Tokens};
+use kt_grammar::Context;
+use kt_parser_steps::{ParseError, Tokens};
 use kt_tree::{Expression, Statement};
 use std::alloc::Global;
 
@@ -110,10 +111,10 @@ impl<
     }
 
     /// Whether there is room for a level above the expression.
-    pub fn has_room(&self, value: &Expression) -> bool
+    pub fn has_more(&self, value: &Expression) -> bool
         requires { AreRead self.now.room (E.pre self.now.expression) (E.post self.now.expression)
             (S.pre self.now.statement) (S.post self.now.statement) }
-        ensures { result ≡ has_room self.now.room (expression_tree value.now) }
+        ensures { result ≡ has_more self.now.room (expression_tree value.now) }
     {
         value.levels() <= self.room
     }

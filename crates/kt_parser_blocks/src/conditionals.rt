@@ -2,17 +2,18 @@
 
 ghost use Rattle.kt_parser_blocks.specs.Below.{AreRead};
 ghost use Rattle.kt_grammar.specs.StatementParser.{parsers};
-ghost use Rattle.kt_parser_steps.specs.Steps.{ReadsAs};
+ghost use Rattle.kt_parser_steps.specs.Steps.{Expects, ReadsAs, given, place_of};
 ghost use Rattle.kt_tree.specs.Bodies.{expression_tree};
 ghost use Rattle.kt_parser_blocks.specs.Rules as rules;
 ghost use Rattle.kt_tree.specs.Bodies.{body_tree, condition_tree, entry_tree};
 ghost use Rattle.std.specs.Prelude.{map, option_map};
 
 use crate::below::{Below, Precedence};
-use kt_grammar::{Context, ParseError, TokenClass, Tokens};
+use kt_base::Pos;
+use kt_grammar::Context;
 use kt_parser_steps::{
-    Lead, attempt_if, class_ahead, expect, expect_keyword, separated, several, sign_if,
-    take_type_check,
+    Lead, ParseError, Refused, TokenClass, Tokens, beside, class_ahead, expect, expect_keyword,
+    part_if, separated, several, sign_if, take_type_check,
 };
 use kt_parser_types::read_type;
 use kt_tree::{
@@ -23,34 +24,25 @@ use kt_tree_nodes::expressions::{if_else, when};
 use sqlite_items::Items;
 use std::alloc::Global;
 
-/// `else`, behind line ends and a `;`.
-fn else_keyword<'a>(tokens: &mut Tokens<'a>) -> Result<&'a Token, ParseError>
-    ensures { ReadsAs (λ token. token.now) (rules.else_keyword tokens.old) result tokens.new }
+/// `n 'else'`, or `';' n 'else'`: what follows is the same with the `;` and without.
+fn else_keyword<'a>(tokens: &mut Tokens<'a>) -> Result<&'a Token, Refused>
+    ensures { Expects (λ token. token.now) (rules.else_keyword tokens.old) result tokens.new }
 {
-    // A `;` may stand before it, and what follows is the same with it and without.
-    match tokens.take_sign(Sign::Semicolon) {
-        Some(_) => behind_lines(tokens),
-        None => behind_lines(tokens),
-    }
-}
-
-fn behind_lines<'a>(tokens: &mut Tokens<'a>) -> Result<&'a Token, ParseError>
-    ensures { ReadsAs (λ token. token.now) (rules.else_behind_lines tokens.old) result tokens.new }
-{
+    let _semicolon = tokens.take_sign(Sign::Semicolon);
     tokens.skip_lines();
     expect_keyword(tokens, Keyword::Else)
 }
 
 /// The `else` of an `if`: with `->` behind it, it begins an entry of a `when`.
-fn else_word(tokens: &mut Tokens<'_>) -> Result<(), ParseError>
-    ensures { ReadsAs (λ u. u) (rules.else_word tokens.old) result tokens.new }
+fn else_word(tokens: &mut Tokens<'_>) -> Result<(), Refused>
+    ensures { Expects (λ u. u) (rules.else_word tokens.old) result tokens.new }
 {
     else_keyword(tokens)?;
     tokens.skip_lines();
     if class_ahead(tokens, TokenClass::NoArrow) {
         Ok(())
     } else {
-        Err(ParseError::Refused)
+        Err(Refused)
     }
 }
 
@@ -59,7 +51,7 @@ impl<
         + Copy,
     S: Fn(Global, u32, Context, &mut Tokens<'_>) -> Result<Statement, ParseError> + Copy,
 > Below<E, S> {
-    /// Behind `if`.
+    /// `'(' expr ')' n body (else n body)?`, behind this `if`.
     pub fn if_rest(
         &self,
         start: &Token,
@@ -72,13 +64,13 @@ impl<
     {
         expect(tokens, Sign::OpenParenthesis)?;
         let condition = self.inner_expression(Precedence::Disjunction, at, tokens)?;
-        expect(tokens, Sign::CloseParenthesis)?;
+        let (condition, _) = beside(condition, expect(tokens, Sign::CloseParenthesis))?;
         tokens.skip_lines();
-        let then = self.inner_body(at, tokens)?;
+        let (condition, then) = beside(condition, self.inner_body(at, tokens))?;
         self.else_rest(start, at, condition, then, tokens)
     }
 
-    /// Behind the first branch.
+    /// `(else n body)?`, behind the first branch.
     fn else_rest(
         &self,
         start: &Token,
@@ -93,14 +85,13 @@ impl<
             (rules.else_rest self.now.room at start.now (expression_tree condition) (body_tree then) tokens.old)
             result tokens.new }
     {
-        let word = attempt_if(true, tokens, &|tokens: &mut Tokens<'_>| else_word(tokens))?;
-        match word {
+        match part_if(true, tokens, &else_word) {
             Some(()) => self.else_body(start, at, condition, then, tokens),
             None => Ok(if_else(self.alloc, start.pos, condition, then, None)?),
         }
     }
 
-    /// Behind `else`.
+    /// `n body`, behind `else`.
     fn else_body(
         &self,
         start: &Token,
@@ -115,7 +106,7 @@ impl<
             (rules.else_body self.now.room at start.now (expression_tree condition) (body_tree then) tokens.old)
             result tokens.new }
     {
-        let other = self.inner_body(at, tokens)?;
+        let ((condition, then), other) = beside((condition, then), self.inner_body(at, tokens))?;
         Ok(if_else(self.alloc, start.pos, condition, then, Some(other))?)
     }
 
@@ -135,6 +126,7 @@ impl<
         }
     }
 
+    /// `subject ')'`, behind `(`.
     fn subject_rest(
         &self,
         at: Context,
@@ -146,11 +138,11 @@ impl<
             result tokens.new }
     {
         let subject = self.inner_expression(Precedence::Disjunction, at, tokens)?;
-        expect(tokens, Sign::CloseParenthesis)?;
+        let (subject, _) = beside(subject, expect(tokens, Sign::CloseParenthesis))?;
         Ok(Some(subject))
     }
 
-    /// Behind `when`.
+    /// `('(' subject ')')? n '{' entries '}'`, behind this `when`.
     pub fn when_rest(
         &self,
         start: &Token,
@@ -163,11 +155,11 @@ impl<
     {
         let subject = self.subject(at, tokens)?;
         tokens.skip_lines();
-        expect(tokens, Sign::OpenBrace)?;
+        let (subject, _) = beside(subject, expect(tokens, Sign::OpenBrace))?;
         self.entries_rest(start, at, subject, tokens)
     }
 
-    /// The entries of a `when`, and the `}`.
+    /// `entries '}'`, behind the `{` of a `when`.
     fn entries_rest(
         &self,
         start: &Token,
@@ -182,13 +174,28 @@ impl<
             result tokens.new }
     {
         let has_subject = subject.is_some();
-        let (entries, _) = separated(
+        let (subject, (entries, _)) = beside(subject, self.entries(at, has_subject, tokens))?;
+        Ok(when(self.alloc, start.pos, subject, entries)?)
+    }
+
+    /// The entries up to the `}`, and its place.
+    fn entries(
+        &self,
+        at: Context,
+        has_subject: bool,
+        tokens: &mut Tokens<'_>,
+    ) -> Result<(Items<WhenEntry>, Pos), ParseError>
+        requires { AreRead self.now.room (E.pre self.now.expression) (E.post self.now.expression)
+            (S.pre self.now.statement) (S.post self.now.statement) }
+        ensures { ReadsAs (λ list. (map entry_tree list.0, list.1))
+            (given place_of (rules.entries self.now.room at has_subject) tokens.old) result tokens.new }
+    {
+        separated(
             self.alloc,
             tokens,
             TokenClass::CloseBrace,
             &|tokens: &mut Tokens<'_>| self.inner_entry(at, has_subject, tokens),
-        )?;
-        Ok(when(self.alloc, start.pos, subject, entries)?)
+        )
     }
 
     /// An entry of at most `room` levels. It holds a body, so it needs two.
@@ -221,9 +228,9 @@ impl<
     {
         let conditions = self.entry_head(at, has_subject, tokens)?;
         tokens.skip_lines();
-        expect(tokens, Sign::Arrow)?;
+        let (conditions, _) = beside(conditions, expect(tokens, Sign::Arrow))?;
         tokens.skip_lines();
-        let body = self.inner_body(at, tokens)?;
+        let (conditions, body) = beside(conditions, self.inner_body(at, tokens))?;
         Ok(entry(conditions, body))
     }
 
@@ -285,6 +292,7 @@ impl<
         }
     }
 
+    /// `type`, behind `is` or `!is`.
     fn type_condition(
         &self,
         negated: bool,
@@ -298,6 +306,7 @@ impl<
         Ok(of_type(negated, written))
     }
 
+    /// `expr`
     fn equals_condition(
         &self,
         at: Context,

@@ -10,8 +10,11 @@ ghost use Rattle.kt_tree.specs.Bodies.{block_tree, body_tree, parameter_tree};
 ghost use Rattle.std.specs.Prelude.{map};
 
 use crate::below::{Below, Precedence};
-use kt_grammar::{Context, ParseError, TokenClass, Tokens};
-use kt_parser_steps::{Lead, attempt_if, expect, expect_identifier, name_of, separated, several};
+use kt_grammar::Context;
+use kt_parser_steps::{
+    Lead, ParseError, TokenClass, Tokens, attempt_if, beside, expect, expect_identifier, name_of,
+    separated, several,
+};
 use kt_parser_types::annotation;
 use kt_tree::{Block, ControlStructureBody, Expression, LambdaParameter, Sign, Statement, Token};
 use kt_tree_nodes::blocks::{block, braces, single};
@@ -24,7 +27,7 @@ impl<
         + Copy,
     S: Fn(Global, u32, Context, &mut Tokens<'_>) -> Result<Statement, ParseError> + Copy,
 > Below<E, S> {
-    /// Behind `{`: statements and the `}`.
+    /// `statements '}'`, behind `{`.
     pub(crate) fn block_rest(
         &self,
         at: Context,
@@ -71,6 +74,7 @@ impl<
         self.body(at, tokens)
     }
 
+    /// `block | statement`
     fn body(&self, at: Context, tokens: &mut Tokens<'_>) -> Result<ControlStructureBody, ParseError>
         requires { AreRead self.now.room (E.pre self.now.expression) (E.post self.now.expression)
             (S.pre self.now.statement) (S.post self.now.statement) }
@@ -82,7 +86,7 @@ impl<
         }
     }
 
-    /// Behind `{`.
+    /// `statements '}'`, behind `{`.
     fn braced_body(
         &self,
         at: Context,
@@ -96,6 +100,7 @@ impl<
         Ok(braces(block))
     }
 
+    /// `statement`
     fn single_body(
         &self,
         at: Context,
@@ -109,7 +114,7 @@ impl<
         Ok(single(self.alloc, statement)?)
     }
 
-    /// Behind `{`, in a lambda literal.
+    /// `n (parameters n '->')? statements '}'`, behind this `{`.
     pub fn lambda_rest(
         &self,
         start: &Token,
@@ -121,11 +126,11 @@ impl<
     {
         tokens.skip_lines();
         let parameters = self.lambda_parameters(tokens)?;
-        let body = self.block_rest(IN_LAMBDA, tokens)?;
+        let (parameters, body) = beside(parameters, self.block_rest(IN_LAMBDA, tokens))?;
         Ok(nodes::lambda(start.pos, parameters, body))
     }
 
-    /// The parameters and `->`, where they come next.
+    /// `(parameters n '->')?`
     fn lambda_parameters(
         &self,
         tokens: &mut Tokens<'_>,
@@ -145,7 +150,7 @@ impl<
         }
     }
 
-    /// `parameters '->'`
+    /// `parameters n '->'`
     fn lambda_head(&self, tokens: &mut Tokens<'_>) -> Result<Items<LambdaParameter>, ParseError>
         requires { AreRead self.now.room (E.pre self.now.expression) (E.post self.now.expression)
             (S.pre self.now.statement) (S.post self.now.statement) }
@@ -158,11 +163,11 @@ impl<
             &|tokens: &mut Tokens<'_>| self.lambda_parameter(tokens),
         )?;
         tokens.skip_lines();
-        expect(tokens, Sign::Arrow)?;
+        let (parameters, _) = beside(parameters, expect(tokens, Sign::Arrow))?;
         Ok(parameters)
     }
 
-    /// `ID (':' type)?`
+    /// A parameter of at most `room` levels.
     fn lambda_parameter(&self, tokens: &mut Tokens<'_>) -> Result<LambdaParameter, ParseError>
         requires { AreRead self.now.room (E.pre self.now.expression) (E.post self.now.expression)
             (S.pre self.now.statement) (S.post self.now.statement) }
@@ -174,6 +179,7 @@ impl<
         self.typed_parameter(tokens)
     }
 
+    /// `ID (':' type)?`
     fn typed_parameter(&self, tokens: &mut Tokens<'_>) -> Result<LambdaParameter, ParseError>
         ensures { ReadsAs parameter_tree (parser.parameter_of self.now.room tokens.old) result tokens.new }
     {
@@ -199,6 +205,7 @@ impl<
         self.lower().lambda(tokens)
     }
 
+    /// `'{' n (parameters n '->')? statements '}'`
     fn lambda(&self, tokens: &mut Tokens<'_>) -> Result<Expression, ParseError>
         requires { AreRead self.now.room (E.pre self.now.expression) (E.post self.now.expression)
             (S.pre self.now.statement) (S.post self.now.statement) }

@@ -2,7 +2,7 @@
 
 ghost use Rattle.kt_parser_blocks.specs.Below.{AreRead};
 ghost use Rattle.kt_grammar.specs.StatementParser.{parsers};
-ghost use Rattle.kt_parser_steps.specs.Steps.{ReadsAs};
+ghost use Rattle.kt_parser_steps.specs.Steps.{Expects, ReadsAs};
 ghost use Rattle.kt_tree.specs.Bodies.{expression_tree};
 ghost use Rattle.kt_parser_blocks.specs.Rules as rules;
 ghost use Rattle.kt_parser_steps.specs.Steps.{turn_tree};
@@ -11,9 +11,10 @@ ghost use Rattle.std.specs.Prelude.{map};
 
 use crate::below::{Below, Precedence};
 use kt_base::Name;
-use kt_grammar::{Context, ParseError, Tokens};
+use kt_grammar::Context;
 use kt_parser_steps::{
-    Turn, attempt_if, expect, expect_identifier, expect_soft_keyword, name_of, repeat,
+    ParseError, Refused, Tokens, Turn, beside, expect, expect_identifier, expect_soft_keyword,
+    name_of, part_if, repeat,
 };
 use kt_parser_types::read_type;
 use kt_tree::{Block, CatchBlock, Expression, Sign, SoftKeyword, Statement, Token};
@@ -22,9 +23,9 @@ use kt_tree_nodes::expressions::try_catch;
 use sqlite_items::Items;
 use std::alloc::Global;
 
-/// `'catch' '(' ID ':'`, behind line ends. The name is given.
-fn catch_head<'a>(tokens: &mut Tokens<'a>) -> Result<&'a Token, ParseError>
-    ensures { ReadsAs (λ token. token.now) (rules.catch_head tokens.old) result tokens.new }
+/// `n 'catch' '(' ID ':'`. The name is given.
+fn catch_head<'a>(tokens: &mut Tokens<'a>) -> Result<&'a Token, Refused>
+    ensures { Expects (λ token. token.now) (rules.catch_head tokens.old) result tokens.new }
 {
     tokens.skip_lines();
     expect_soft_keyword(tokens, SoftKeyword::Catch)?;
@@ -34,9 +35,9 @@ fn catch_head<'a>(tokens: &mut Tokens<'a>) -> Result<&'a Token, ParseError>
     Ok(name)
 }
 
-/// `'finally' '{'`, behind line ends.
-fn finally_head<'a>(tokens: &mut Tokens<'a>) -> Result<&'a Token, ParseError>
-    ensures { ReadsAs (λ token. token.now) (rules.finally_head tokens.old) result tokens.new }
+/// `n 'finally' n '{'`
+fn finally_head<'a>(tokens: &mut Tokens<'a>) -> Result<&'a Token, Refused>
+    ensures { Expects (λ token. token.now) (rules.finally_head tokens.old) result tokens.new }
 {
     tokens.skip_lines();
     expect_soft_keyword(tokens, SoftKeyword::Finally)?;
@@ -49,7 +50,7 @@ impl<
         + Copy,
     S: Fn(Global, u32, Context, &mut Tokens<'_>) -> Result<Statement, ParseError> + Copy,
 > Below<E, S> {
-    /// Behind `try`.
+    /// `n block catches (n 'finally' n block)?`, behind this `try`.
     pub fn try_rest(
         &self,
         start: &Token,
@@ -62,7 +63,7 @@ impl<
     {
         tokens.skip_lines();
         let block = self.block(at, tokens)?;
-        let catches = self.catches(at, tokens)?;
+        let (block, catches) = beside(block, self.catches(at, tokens))?;
         self.finally_rest(start, at, block, catches, tokens)
     }
 
@@ -81,6 +82,7 @@ impl<
         )
     }
 
+    /// One `catch` block more, where one comes next.
     fn catch_turn(
         &self,
         at: Context,
@@ -92,13 +94,13 @@ impl<
         ensures { ReadsAs (turn_tree (map catch_tree) (map catch_tree))
             (rules.catch_turn self.now.room at (map catch_tree catches) tokens.old) result tokens.new }
     {
-        let head = attempt_if(self.is_deep(), tokens, &catch_head)?;
-        match head {
+        match part_if(self.is_deep(), tokens, &catch_head) {
             Some(token) => self.catch_more(at, catches, token, tokens),
             None => Ok(Turn::Done(catches)),
         }
     }
 
+    /// `type ')' n block`, behind the name of a `catch` and `:`.
     fn catch_more(
         &self,
         at: Context,
@@ -117,7 +119,7 @@ impl<
         Ok(Turn::More(catches))
     }
 
-    /// Behind the name of a `catch` and `:`, of at most `room` levels.
+    /// `type ')' n block`, a `catch` block of at most `room` levels.
     fn inner_catch(
         &self,
         at: Context,
@@ -134,6 +136,7 @@ impl<
         self.lower().catch_rest(at, name, tokens)
     }
 
+    /// `type ')' n block`
     fn catch_rest(
         &self,
         at: Context,
@@ -145,13 +148,13 @@ impl<
         ensures { ReadsAs catch_tree (rules.catch_rest self.now.room at name tokens.old) result tokens.new }
     {
         let exception = read_type(self.alloc, self.room + 1, tokens)?;
-        expect(tokens, Sign::CloseParenthesis)?;
+        let (exception, _) = beside(exception, expect(tokens, Sign::CloseParenthesis))?;
         tokens.skip_lines();
-        let body = self.block(at, tokens)?;
+        let (exception, body) = beside(exception, self.block(at, tokens))?;
         Ok(catch(name, exception, body))
     }
 
-    /// Behind the `catch` blocks: `finally` may stand there, and has to where there is no `catch`.
+    /// `(n 'finally' n block)?`, behind the `catch` blocks. It has to stand where there are none.
     fn finally_rest(
         &self,
         start: &Token,
@@ -166,14 +169,13 @@ impl<
             (rules.finally_rest self.now.room at start.now (block_tree block) (map catch_tree catches) tokens.old)
             result tokens.new }
     {
-        let head = attempt_if(true, tokens, &finally_head)?;
-        match head {
+        match part_if(true, tokens, &finally_head) {
             Some(_) => self.finally_block(start, at, block, catches, tokens),
             None => without_finally(start, block, catches, tokens),
         }
     }
 
-    /// Behind `finally {`.
+    /// `statements '}'`, behind `finally {`.
     fn finally_block(
         &self,
         start: &Token,
@@ -188,7 +190,8 @@ impl<
             (rules.finally_block self.now.room at start.now (block_tree block) (map catch_tree catches) tokens.old)
             result tokens.new }
     {
-        let last = self.block_rest(at, tokens)?;
+        let held = beside((block, catches), self.block_rest(at, tokens));
+        let ((block, catches), last) = held?;
         Ok(try_catch(start.pos, block, catches, Some(last)))
     }
 }

@@ -1,8 +1,8 @@
 -- Lists of items, as the trees see them.
 use Rattle.std.proofs.Common.{◌≡◌, List, [], Result, Ok, Err, map, ap, sym, subst, ◌∙◌, ◌⊎◌, inl}
 use Rattle.std.proofs.lemmas.List.{map-id}
-use Rattle.kt_grammar.specs.declared.error.ParseError.{ParseError}
-use Rattle.kt_grammar.specs.Parsers.{Cursor, Parser, Outcome, repeat}
+use Rattle.kt_parser_steps.specs.declared.error.ParseError.{ParseError}
+use Rattle.kt_grammar_parsers.specs.Parsers.{Cursor, Parser, Outcome, repeat}
 use Rattle.kt_parser_steps.specs.Steps.{ReadsAs}
 
 -- a list that is absent

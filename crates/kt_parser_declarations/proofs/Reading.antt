@@ -2,11 +2,11 @@
 use Rattle.std.proofs.Common.{◌≡◌, Bool, Some, None, Result, Ok, Err, refl}
 use Rattle.kt_tree.specs.declared.tokens.Token.{Token}
 use Rattle.kt_tree.specs.Tokens.{is_new_line}
-use Rattle.kt_grammar.specs.declared.error.ParseError.{ParseError}
-use Rattle.kt_grammar.specs.Parsers.{Cursor, Parser, Outcome, ◌>>=◌, ◌>>◌, token, skip}
+use Rattle.kt_parser_steps.specs.declared.error.ParseError.{ParseError}
+use Rattle.kt_grammar_parsers.specs.Parsers.{Cursor, Parser, Outcome, ◌>>=◌, ◌>>◌, token, skip}
 use Rattle.kt_grammar.specs.Readers.{lines}
-use Rattle.kt_grammar.specs.Cursors.{Turned}
-use Rattle.kt_grammar.proofs.Turns.{token_taken, token_missed}
+use Rattle.kt_parser_steps.specs.Cursors.{Turned}
+use Rattle.kt_parser_steps.proofs.Turns.{token_taken, token_missed}
 use Rattle.kt_parser_steps.specs.Steps.{ReadsAs}
 use Rattle.kt_parser_steps.proofs.Ways.{reads_from}
 

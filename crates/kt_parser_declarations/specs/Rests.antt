@@ -15,7 +15,7 @@ use Rattle.kt_tree.specs.declared.declarations.ConstantValue.TheVariants as valu
 use Rattle.kt_tree.specs.Tokens.{is_keyword, is_sign}
 use Rattle.kt_tree.specs.Declarations as d
 use Rattle.kt_tree.specs.Declarations.{TypeParameterTree, FunctionBodyTree, SuperArgumentsTree, MemberTree, DeclarationTree}
-use Rattle.kt_grammar.specs.Parsers.{Parser, ◌>>=◌, ◌>>◌, pure, token, on, attempt, repeat}
+use Rattle.kt_grammar_parsers.specs.Parsers.{Parser, ◌>>=◌, ◌>>◌, pure, token, on, attempt, repeat}
 use Rattle.kt_grammar.specs.Terminals.{is_close_quote, literal_of}
 use Rattle.kt_grammar.specs.Readers.{meant, lines, expect, maybe_commas, several_items, separated}
 use Rattle.kt_grammar.specs.Declarations.{Scope, Modified, start_of, may_be_generic, kind_of, arguments_at, outside, at_top, in_class}

@@ -19,8 +19,9 @@ use crate::levels::{expression, parent};
 use crate::lists::{members, supertypes};
 use crate::modifiers::Opening;
 use crate::parameters::{constructor_parameters, type_parameters, typed_parameter};
-use kt_grammar::{ParseError, Tokens};
-use kt_parser_steps::{expect, expect_identifier, maybe_comma_list, name_of, take_variable};
+use kt_parser_steps::{
+    ParseError, Tokens, beside, expect, expect_identifier, maybe_comma_list, name_of, take_variable,
+};
 use kt_tree::{
     ClassDeclaration, ClassMember, ClassModifiers, Expression, FunctionDeclaration,
     InterfaceDeclaration, PropertyDeclaration, Sign, SuperArguments, Supertype, Token,
@@ -45,7 +46,7 @@ fn argument_list(alloc: Global, tokens: &mut Tokens<'_>) -> Result<Items<Express
     )
 }
 
-/// The arguments for the constructor of a superclass, behind this `(`.
+/// `args? ')'`, behind this `(`: the arguments for the constructor of a superclass.
 fn super_arguments_rest(
     alloc: Global,
     parenthesis: &Token,
@@ -75,11 +76,11 @@ fn supertype(alloc: Global, tokens: &mut Tokens<'_>) -> Result<Supertype, ParseE
     ensures { ReadsAs supertype_tree (parser.supertype tokens.old) result tokens.new }
 {
     let parent = parent(alloc, tokens)?;
-    let arguments = super_arguments(alloc, tokens)?;
+    let (parent, arguments) = beside(parent, super_arguments(alloc, tokens))?;
     Ok(nodes::supertype(parent, arguments))
 }
 
-/// The supertypes of a class.
+/// `(':' n super (',' n super)*)?`, the supertypes of a class.
 fn class_supertypes(alloc: Global, tokens: &mut Tokens<'_>) -> Result<Items<Supertype>, ParseError>
     ensures { ReadsAs (map supertype_tree) (parser.supertypes parser.supertype tokens.old) result tokens.new }
 {
@@ -90,7 +91,7 @@ fn class_supertypes(alloc: Global, tokens: &mut Tokens<'_>) -> Result<Items<Supe
     )
 }
 
-/// The supertypes of an interface, which have no arguments for a constructor.
+/// `(':' n super (',' n super)*)?`, the supertypes of an interface, which have no arguments for a constructor.
 fn interface_supertypes(
     alloc: Global,
     tokens: &mut Tokens<'_>,
@@ -116,13 +117,13 @@ fn property_rest(
     ensures { ReadsAs property_tree (parser.property_rest (token.now, variable) tokens.old) result tokens.new }
 {
     let declared = typed_parameter(alloc, tokens)?;
-    expect(tokens, Sign::Assign)?;
+    let (declared, _) = beside(declared, expect(tokens, Sign::Assign))?;
     tokens.skip_lines();
-    let initializer = expression(alloc, tokens)?;
+    let (declared, initializer) = beside(declared, expression(alloc, tokens))?;
     Ok(nodes::property(token.pos, variable, declared, initializer))
 }
 
-/// A property, behind this `val` or `var`.
+/// `ID ':' type '=' n expr`, behind this `val` or `var`: a property of a class.
 fn property_member(
     alloc: Global,
     token: &Token,
@@ -191,7 +192,7 @@ fn interface_functions(
 
 // ---- declarations
 
-/// A class, behind its modifiers and `class`.
+/// `ID tparams? cparams? supers? members?`, behind the modifiers of a class and `class`.
 pub(crate) fn class_rest(
     alloc: Global,
     opening: Opening<ClassModifiers>,
@@ -204,7 +205,7 @@ pub(crate) fn class_rest(
     let type_parameters = type_parameters(alloc, tokens)?;
     let parameters = constructor_parameters(alloc, tokens)?;
     let supertypes = class_supertypes(alloc, tokens)?;
-    let members = class_members(alloc, tokens)?;
+    let (supertypes, members) = beside(supertypes, class_members(alloc, tokens))?;
     Ok(nodes::class(
         opening.at,
         opening.modifiers,
@@ -216,7 +217,7 @@ pub(crate) fn class_rest(
     ))
 }
 
-/// An interface, behind this `interface`.
+/// `ID tparams? supers? functions?`, behind this `interface`.
 pub(crate) fn interface_rest(
     alloc: Global,
     start: &Token,

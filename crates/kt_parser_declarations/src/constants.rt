@@ -8,10 +8,9 @@ ghost use Rattle.kt_tree.specs.Declarations.{constant_tree, declaration_tree};
 ghost use Rattle.std.specs.Prelude.{◌≡◌, map, Ok};
 
 use crate::levels::annotation;
-use kt_grammar::{ParseError, TokenClass, Tokens};
 use kt_parser_steps::{
-    Lead, Turn, expect, expect_identifier, expect_keyword, meant_text, name_of, repeat, several,
-    take_literal,
+    Lead, ParseError, TokenClass, Tokens, Turn, beside, expect, expect_identifier, expect_keyword,
+    meant_text, name_of, repeat, several, take_literal,
 };
 use kt_tree::{
     ConstantDeclaration, ConstantValue, Declaration, EnumEntry, Keyword, Sign, TextPart, Token,
@@ -65,7 +64,7 @@ pub(crate) fn enum_rest(
 
 // ---- constants
 
-/// The `"` that ends a string.
+/// `'"'`, which ends a string.
 fn text_end(
     parts: Items<TextPart>,
     tokens: &mut Tokens<'_>,
@@ -79,7 +78,7 @@ fn text_end(
     }
 }
 
-/// One part of a string more, or the `"` that ends it.
+/// `part | '"'`: one part of a string more, or its end.
 fn text_turn(
     mut parts: Items<TextPart>,
     tokens: &mut Tokens<'_>,
@@ -97,14 +96,14 @@ fn text_turn(
     }
 }
 
-/// The parts of a string all of whose parts are text, behind its `"`.
+/// `part* '"'`, behind the `"` that begins a string all of whose parts are text.
 fn text_parts(alloc: Global, tokens: &mut Tokens<'_>) -> Result<Items<TextPart>, ParseError>
     ensures { ReadsAs (λ parts. parts) (rests.text_parts tokens.old) result tokens.new }
 {
     repeat(tokens, Items::new(alloc), &text_turn)
 }
 
-/// A string all of whose parts are text, behind its `"`.
+/// `part* '"'`, the value of a constant, behind the `"` that begins it.
 fn text_value(alloc: Global, tokens: &mut Tokens<'_>) -> Result<ConstantValue, ParseError>
     ensures { ReadsAs (λ value. value) (rests.text_value tokens.old) result tokens.new }
 {
@@ -130,7 +129,7 @@ fn literal_value(tokens: &mut Tokens<'_>) -> Result<ConstantValue, ParseError>
     literal_behind(negative, tokens)
 }
 
-/// A literal, with a `-` before it where it is negative.
+/// `literal`, behind the `-` where it is negative.
 fn literal_behind(negative: bool, tokens: &mut Tokens<'_>) -> Result<ConstantValue, ParseError>
     ensures { ReadsAs (λ value. value) (rests.literal_behind negative tokens.old) result tokens.new }
 {
@@ -162,8 +161,8 @@ pub(crate) fn constant_rest(
     let token = expect_identifier(tokens)?;
     let name = name_of(alloc, token)?;
     let annotation = annotation(alloc, tokens)?;
-    expect(tokens, Sign::Assign)?;
+    let (annotation, _) = beside(annotation, expect(tokens, Sign::Assign))?;
     tokens.skip_lines();
-    let value = constant_value(alloc, tokens)?;
+    let (annotation, value) = beside(annotation, constant_value(alloc, tokens))?;
     Ok(nodes::constant(start.pos, name, annotation, value))
 }

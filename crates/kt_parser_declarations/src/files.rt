@@ -13,14 +13,13 @@ use crate::functions::{Scope, function};
 use crate::lists::items_until;
 use crate::modifiers::{Opening, class_word};
 use kt_base::NoMemory;
-use kt_grammar::{ParseError, TokenClass, Tokens};
-use kt_parser_steps::attempt_if;
+use kt_parser_steps::{ParseError, TokenClass, Tokens, attempt_if};
 use kt_tree::{ClassModifiers, Declaration, Keyword, SoftKeyword, Token};
 use kt_tree_nodes::declarations as nodes;
 use sqlite_items::Items;
 use std::alloc::Global;
 
-/// An interface, behind this `interface`.
+/// `ID tparams? supers? functions?`, behind this `interface`.
 fn interface_declaration(
     alloc: Global,
     start: &Token,
@@ -32,7 +31,7 @@ fn interface_declaration(
     Ok(nodes::interface_declaration(interface))
 }
 
-/// A constant, behind this `const`.
+/// `'val' ID (':' type)? '=' n ('-'? literal | string)`, behind this `const`.
 fn constant_declaration(
     alloc: Global,
     start: &Token,
@@ -44,7 +43,7 @@ fn constant_declaration(
     Ok(nodes::constant_declaration(constant))
 }
 
-/// A class, behind its modifiers and `class`.
+/// `ID tparams? cparams? supers? members?`, behind the modifiers of a class and `class`.
 fn class_declaration(
     alloc: Global,
     opening: Opening<ClassModifiers>,

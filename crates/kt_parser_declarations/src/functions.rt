@@ -11,8 +11,7 @@ ghost use Rattle.std.specs.Prelude.{◌≡◌, map};
 use crate::levels::{annotation, block, expression};
 use crate::modifiers::fun_word;
 use crate::parameters::{parameters_rest, type_parameters};
-use kt_grammar::{ParseError, Tokens};
-use kt_parser_steps::{expect, expect_identifier, name_of, sign_if};
+use kt_parser_steps::{ParseError, Tokens, beside, expect, expect_identifier, name_of, sign_if};
 use kt_tree::{FunctionBody, FunctionDeclaration, FunctionModifiers, Sign, TypeParameter};
 use kt_tree_nodes::declarations as nodes;
 use sqlite_items::Items;
@@ -116,7 +115,8 @@ pub(crate) fn function(
     let parameters = parameters_rest(alloc, tokens)?;
     let outcome = annotation(alloc, tokens)?;
     let present = has_body(scope, opening.modifiers);
-    let body = body_if(alloc, present, outcome.is_some(), tokens)?;
+    let body = body_if(alloc, present, outcome.is_some(), tokens);
+    let (outcome, body) = beside(outcome, body)?;
     Ok(nodes::function(
         opening.at,
         opening.modifiers,

@@ -11,8 +11,9 @@ ghost use Rattle.kt_tree.specs.Tokens.{is_sign};
 ghost use Rattle.kt_tree.specs.Types.{maybe_type, type_tree};
 ghost use Rattle.kt_tree.specs.declared.tokens.Sign.TheVariants as sign;
 
-use kt_grammar::{Context, ParseError, Tokens};
+use kt_grammar::Context;
 use kt_parser_statements::{read_block, read_whole_expression};
+use kt_parser_steps::{ParseError, Tokens};
 use kt_parser_types::{named_type, read_type};
 use kt_tree::{Block, Expression, TypeReference};
 use std::alloc::Global;

@@ -1,4 +1,4 @@
-//! The parser of declarations and files: recursive descent over the cursor of `kt_grammar`.
+//! The parser of declarations and files: recursive descent over the cursor of `kt_parser_steps`.
 #![tactic(auto)]
 
 mod classes;

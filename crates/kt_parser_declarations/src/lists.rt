@@ -2,15 +2,15 @@
 
 ghost use Rattle.kt_parser_declarations.specs.Rests as rests;
 ghost use Rattle.kt_grammar.specs.DeclarationParser as parser;
-ghost use Rattle.kt_grammar.specs.Parsers.{Parser};
-ghost use Rattle.kt_grammar.specs.Terminals.{is_of};
-ghost use Rattle.kt_parser_steps.specs.Steps.{EachReads, Finds, ReadsAs};
+ghost use Rattle.kt_grammar_parsers.specs.Parsers.{Parser};
+ghost use Rattle.kt_parser_steps.specs.Classes.{is_of};
+ghost use Rattle.kt_parser_steps.specs.Steps.{EachReads, Expects, ReadsAs};
 ghost use Rattle.kt_tree.specs.declared.tokens.Token.{Token};
-ghost use Rattle.std.specs.Prelude.{IfOk, map};
+ghost use Rattle.std.specs.Prelude.{map};
 
-use kt_base::NoMemory;
-use kt_grammar::{ParseError, TokenClass, Tokens};
-use kt_parser_steps::{Lead, Node, attempt_if, expect, separated, several};
+use kt_parser_steps::{
+    Lead, Node, ParseError, Refused, TokenClass, Tokens, expect, part_if, separated, several,
+};
 use kt_tree::{Sign, Token};
 use sqlite_items::Items;
 use std::alloc::Global;
@@ -61,19 +61,11 @@ pub(crate) fn supertypes<T: Node + Drop, F: Fn(&mut Tokens<'_>) -> Result<T, Par
 }
 
 /// `n '{'`
-fn open_brace<'a>(tokens: &mut Tokens<'a>) -> Result<&'a Token, ParseError>
-    ensures { ReadsAs (λ token. token.now) (rests.open_brace tokens.old) result tokens.new }
+fn open_brace<'a>(tokens: &mut Tokens<'a>) -> Result<&'a Token, Refused>
+    ensures { Expects (λ token. token.now) (rests.open_brace tokens.old) result tokens.new }
 {
     tokens.skip_lines();
     expect(tokens, Sign::OpenBrace)
-}
-
-/// Takes `{` behind line ends, where it stands. Else the cursor goes back.
-fn open_brace_ahead<'a>(tokens: &mut Tokens<'a>) -> Result<Option<&'a Token>, NoMemory>
-    ensures { IfOk result
-        (λ found. Finds (λ token. token.now) (rests.open_brace tokens.old) tokens.old found tokens.new) }
-{
-    attempt_if(true, tokens, &open_brace)
 }
 
 /// `(n '{' sep? (item (sep item)*)? sep? '}')?`
@@ -86,8 +78,7 @@ pub(crate) fn members<T: Node + Drop, F: Fn(&mut Tokens<'_>) -> Result<T, ParseE
     ensures { (p : Parser Token T.Tree) → EachReads T.tree p (F.post item.now)
         → ReadsAs (map T.tree) (parser.members p tokens.old) result tokens.new }
 {
-    let brace = open_brace_ahead(tokens)?;
-    match brace {
+    match part_if(true, tokens, &open_brace) {
         Some(_) => items_until(alloc, tokens, TokenClass::CloseBrace, item),
         None => Ok(Items::new(alloc)),
     }

@@ -8,8 +8,7 @@ ghost use Rattle.kt_parser_steps.specs.Steps.{ReadsAs, turn_tree};
 ghost use Rattle.std.specs.Prelude.{◌≡◌};
 
 use kt_base::Pos;
-use kt_grammar::{ParseError, Tokens};
-use kt_parser_steps::{Node, Turn, expect_keyword, repeat, soft_keyword_if};
+use kt_parser_steps::{Node, ParseError, Tokens, Turn, expect_keyword, repeat, soft_keyword_if};
 use kt_tree::{ClassModifiers, FunctionModifiers, Keyword, SoftKeyword, Token};
 
 /// The modifiers so far, and the place of the first of them.
@@ -98,7 +97,7 @@ impl<M: Copy> Modified<M> {
 
 // ---- functions
 
-/// `fun`, behind its modifiers.
+/// `'fun'`, behind its modifiers.
 fn fun_turn(
     so_far: Modified<FunctionModifiers>,
     tokens: &mut Tokens<'_>,
@@ -173,7 +172,7 @@ pub(crate) fn fun_word(tokens: &mut Tokens<'_>) -> Result<Opening<FunctionModifi
 
 // ---- classes
 
-/// `class`, behind its modifiers.
+/// `'class'`, behind its modifiers.
 fn class_keyword_turn(
     so_far: Modified<ClassModifiers>,
     tokens: &mut Tokens<'_>,

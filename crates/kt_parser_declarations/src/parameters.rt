@@ -12,8 +12,9 @@ ghost use Rattle.kt_tree.specs.declared.tokens.Sign.TheVariants as sign;
 ghost use Rattle.std.specs.Prelude.{◌≡◌, map, Ok, true};
 
 use crate::levels::{annotation, any_type};
-use kt_grammar::{ParseError, Tokens};
-use kt_parser_steps::{comma_list, expect, expect_identifier, maybe_comma_list, meant_if, name_of};
+use kt_parser_steps::{
+    ParseError, Tokens, comma_list, expect, expect_identifier, maybe_comma_list, meant_if, name_of,
+};
 use kt_tree::{
     ConstructorParameter, ConstructorParameterKind, Keyword, Parameter, Sign, Token, TypeParameter,
 };

@@ -1,3 +1,3 @@
 pub mod OneTurn
 pub mod SeenBehind
-pub mod Suffixed
+pub mod BehindValue

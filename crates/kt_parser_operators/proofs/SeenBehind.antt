@@ -1,7 +1,7 @@
 -- What a parser gives, seen as something else: it is seen so where each of its ways is.
 use Rattle.std.proofs.Common.{◌≡◌, Bool, true, false, List, [], ◌∷◌, Ok, Err, refl}
 use Rattle.kt_tree.specs.declared.tokens.Token.{Token}
-use Rattle.kt_grammar.specs.Parsers.{Cursor, Outcome, Parser, cursor, further, and_then, pure, on, turned, turned_by, attempt, attempt_if, tried}
+use Rattle.kt_grammar_parsers.specs.Parsers.{Cursor, Outcome, Parser, cursor, further, and_then, pure, on, turned, turned_by, attempt, attempt_if, tried}
 use Rattle.kt_grammar.specs.Readers.{on_if}
 
 abbrev pub seen : {T A B : Type 0} → (A → B) → Outcome T A → Outcome T B

@@ -11,18 +11,18 @@ use Rattle.kt_tree.specs.Bodies as e
 use Rattle.kt_tree.specs.Bodies.{ExpressionTree}
 use Rattle.kt_grammar.specs.declared.context.Context.{Context}
 use Rattle.kt_grammar.specs.Declarations.{outside}
-use Rattle.kt_grammar.specs.Parsers.{Parser, some_levels, ◌>>=◌, ◌>>◌, pure, token, on, attempt_if}
-use Rattle.kt_grammar.specs.Terminals.{name_of, member_of, type_check_of, cast_of}
+use Rattle.kt_grammar_parsers.specs.Parsers.{Parser, ◌>>=◌, ◌>>◌, pure, token, ahead, attempt_if, where_next}
+use Rattle.kt_grammar.specs.Terminals.{name_of, opens_arguments, type_check_of, cast_of}
 use Rattle.kt_grammar.specs.Levels.{place}
-use Rattle.kt_grammar.specs.Readers.{meant, on_if, lines, expect, maybe_commas, type_parser}
+use Rattle.kt_grammar.specs.Readers.{meant, on_if, lines, maybe_commas, type_parser}
 use Rattle.kt_grammar.specs.ExpressionParser as p
 use Rattle.kt_grammar.specs.StatementParser.{parsers}
 use Rattle.kt_parser_steps.specs.declared.meanings.BinaryLevel.{BinaryLevel}
 use Rattle.kt_parser_steps.specs.declared.meanings.BinaryLevel.TheVariants as level
-use Rattle.kt_parser_steps.specs.Operators.{operator_of}
+use Rattle.kt_parser_steps.specs.Operators.{member_sign, operator_of}
 use Rattle.kt_parser_blocks.specs.declared.below.Precedence.{Precedence}
 use Rattle.kt_parser_blocks.specs.declared.below.Precedence.TheVariants as precedence
-use Rattle.kt_parser_blocks.specs.Rules.{expression, has_room}
+use Rattle.kt_parser_blocks.specs.Rules.{expression, has_more}
 
 -- what the right operand of an operator is made of
 abbrev pub right_operand : BinaryLevel → Precedence
@@ -37,33 +37,31 @@ right_operand level.Multiplicative = precedence.Cast
 
 -- ---- suffixes
 
--- a suffix is read as what it makes of the operand before it
-abbrev pub member_suffix : Parser Token (ExpressionTree → ExpressionTree)
-member_suffix = lines
-    >> (meant member_of >>= (λ safe. lines
-    >> (token is_identifier >>= (λ x. pure (λ a. e.member (place a) a safe.1 (name_of x))))))
+-- a name, behind the sign of a member
+abbrev pub member_rest : ExpressionTree → Bool → Parser Token (ExpressionTree ⊎ ExpressionTree)
+member_rest a safe = lines >> (token is_identifier >>= (λ x. pure (inl (e.member (place a) a safe (name_of x)))))
 
-abbrev pub member_sign : Parser Token Bool
-member_sign = meant member_of >>= (λ o. pure o.1)
+-- a member, where there is room for one
+abbrev pub member_turn : Bool → ExpressionTree → Parser Token (ExpressionTree ⊎ ExpressionTree)
+member_turn allowed a = attempt_if allowed member_sign (λ safe. member_rest a safe.1) (pure (inr a))
 
 abbrev pub type_arguments_of_call : ℕ → Parser Token (List TypeTree)
 type_arguments_of_call n = p.type_arguments_of_call (suc n) (parsers n) outside
 
 module _ (n : ℕ) (at : Context) where
-  abbrev pub index_rest : Parser Token (ExpressionTree → ExpressionTree)
-  index_rest = (parsers n).disjunction at >>= (λ i. expect sign.CloseBracket >> pure (λ a. e.index (place a) a i))
-
-  abbrev pub suffix : Parser Token (ExpressionTree → ExpressionTree)
-  suffix = on (is_sign sign.NotNull) (λ _. pure (λ a. e.not_null (place a) a))
-      (on_if (some_levels (parsers n).levels) (is_sign sign.OpenBracket) (λ _. index_rest) member_suffix)
+  -- an expression and `]`, behind `[`
+  abbrev pub element_rest : ExpressionTree → Parser Token (ExpressionTree ⊎ ExpressionTree)
+  element_rest = p.element (suc n) (parsers n) at
 
   abbrev pub arguments_in_parentheses : Parser Token (List ExpressionTree)
   arguments_in_parentheses = maybe_commas (is_sign sign.CloseParenthesis) ((parsers n).disjunction at)
 
+  abbrev pub lambda_behind : List ExpressionTree → Parser Token (List ExpressionTree)
+  lambda_behind es = (parsers n).lambda at >>= (λ l. pure (es ++ l ∷ []))
+
   -- a lambda behind the arguments in parentheses
   abbrev pub with_lambda : List ExpressionTree → Parser Token (List ExpressionTree)
-  with_lambda es = attempt_if (some_levels (parsers n).levels) ((parsers n).lambda at) (λ l. pure (es ++ l ∷ []))
-      (pure es)
+  with_lambda es = where_next (is_sign sign.OpenBrace) (lambda_behind es) (pure es)
 
   abbrev pub arguments_rest : Parser Token (List ExpressionTree)
   arguments_rest = p.arguments_rest (suc n) (parsers n) at
@@ -76,16 +74,19 @@ module _ (n : ℕ) (at : Context) where
 
   -- a suffix that is no call
   abbrev pub other_suffix_turn : ExpressionTree → Parser Token (ExpressionTree ⊎ ExpressionTree)
-  other_suffix_turn a = attempt_if (has_room n a) (p.suffix (suc n) (parsers n) at a) (λ c. pure (inl c)) (pure (inr a))
+  other_suffix_turn a =
+      on_if (has_more n a) (is_sign sign.NotNull) (λ _. pure (inl (e.not_null (place a) a)))
+      (on_if (has_more n a) (is_sign sign.OpenBracket) (λ _. element_rest a) (member_turn (has_more n a) a))
+
+  -- the arguments of a call, behind its type arguments
+  abbrev pub call_rest : ExpressionTree → List TypeTree → Parser Token (ExpressionTree ⊎ ExpressionTree)
+  call_rest = p.call_of (suc n) (parsers n) at
 
   -- a suffix without type arguments
   abbrev pub plain_suffix_turn : ExpressionTree → Parser Token (ExpressionTree ⊎ ExpressionTree)
   plain_suffix_turn a =
-      attempt_if (p.has_call (suc n) (parsers n) at a) call_arguments
-      (λ es. pure (inl (p.called (suc n) (parsers n) at a [] es))) (other_suffix_turn a)
-
-  abbrev pub typed_call_rest : ExpressionTree → List TypeTree → Parser Token (ExpressionTree ⊎ ExpressionTree)
-  typed_call_rest a ts = call_arguments >>= (λ es. pure (inl (p.called (suc n) (parsers n) at a ts es)))
+      attempt_if (p.has_call (suc n) (parsers n) at a) (ahead opens_arguments) (λ _. call_rest a [])
+      (other_suffix_turn a)
 
   abbrev pub suffix_turn : ExpressionTree → Parser Token (ExpressionTree ⊎ ExpressionTree)
   suffix_turn = p.suffix_turn (suc n) (parsers n) at
@@ -100,14 +101,14 @@ module _ (n : ℕ) where
   cast_rest a safe = lines >> (type_parser (suc n) >>= (λ t. pure (inl (e.cast (place a) a safe t))))
 
   abbrev pub cast_turn : ExpressionTree → Parser Token (ExpressionTree ⊎ ExpressionTree)
-  cast_turn a = attempt_if (has_room n a) (meant cast_of) (λ safe. cast_rest a safe.1) (pure (inr a))
+  cast_turn a = attempt_if (has_more n a) (meant cast_of) (λ safe. cast_rest a safe.1) (pure (inr a))
 
   -- ('is' | '!is') lines type, behind an operand
   abbrev pub type_check_rest : ExpressionTree → Bool → Parser Token ExpressionTree
   type_check_rest a not = lines >> (type_parser (suc n) >>= (λ t. pure (e.type_check (place a) a not t)))
 
   abbrev pub type_check_behind : ExpressionTree → Parser Token ExpressionTree
-  type_check_behind a = attempt_if (has_room n a) (meant type_check_of) (λ not. type_check_rest a not.1) (pure a)
+  type_check_behind a = attempt_if (has_more n a) (meant type_check_of) (λ not. type_check_rest a not.1) (pure a)
 
 module _ (n : ℕ) (at : Context) where
   -- ---- operators between two operands
@@ -122,12 +123,12 @@ module _ (n : ℕ) (at : Context) where
 
   -- a turn of a chain of binary operators
   abbrev pub binary_turn : BinaryLevel → ExpressionTree → Parser Token (ExpressionTree ⊎ ExpressionTree)
-  binary_turn l a = attempt_if (has_room n a) (operator_of l) (λ o. binary_rest l o.1 a) (pure (inr a))
+  binary_turn l a = attempt_if (has_more n a) (operator_of l) (λ o. binary_rest l o.1 a) (pure (inr a))
 
   -- a comparison operator and its right operand, behind the left one
   abbrev pub comparison_behind : ExpressionTree → Parser Token ExpressionTree
   comparison_behind a =
-      attempt_if (has_room n a) (operator_of level.Comparison)
+      attempt_if (has_more n a) (operator_of level.Comparison)
       (λ o. operand level.Comparison (λ b. e.binary (place a) o.1 a b)) (pure a)
 
   -- ---- the rows, from the one that binds most

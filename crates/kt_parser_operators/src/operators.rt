@@ -4,15 +4,15 @@ ghost use Rattle.kt_parser_blocks.specs.Below.{AreRead};
 ghost use Rattle.kt_parser_steps.specs.Steps.{ReadsAs};
 ghost use Rattle.kt_tree.specs.Bodies.{expression_tree};
 ghost use Rattle.kt_parser_operators.specs.Rules as rules;
-ghost use Rattle.kt_grammar.specs.Parsers.{repeat};
+ghost use Rattle.kt_grammar_parsers.specs.Parsers.{repeat};
 ghost use Rattle.kt_parser_steps.specs.Steps.{turn_tree};
 ghost use Rattle.std.specs.Prelude.{◌≡◌};
 
-use kt_grammar::{Context, ParseError, Tokens};
+use kt_grammar::Context;
 use kt_parser_blocks::{Below, Precedence};
 use kt_parser_steps::{
-    BinaryLevel, Turn, repeat, take_binary_operator, take_cast, take_prefix_operator,
-    take_type_check,
+    BinaryLevel, ParseError, Tokens, Turn, beside, repeat, take_binary_operator, take_cast,
+    take_prefix_operator, take_type_check,
 };
 use kt_parser_types::read_type;
 use kt_tree::{BinaryOperator, Expression, PrefixOperator, Statement, Token};
@@ -86,14 +86,14 @@ impl<
         ensures { ReadsAs (turn_tree expression_tree expression_tree)
             (rules.binary_turn self.now.below.room at level (expression_tree left) tokens.old) result tokens.new }
     {
-        let allowed = self.below.has_room(&left);
+        let allowed = self.below.has_more(&left);
         match take_binary_operator(allowed, level, tokens) {
             Some((_, operator)) => self.binary_rest(level, at, operator, left, tokens),
             None => Ok(Turn::Done(left)),
         }
     }
 
-    /// The right operand, behind the operator and line ends.
+    /// `n right`, behind the operator.
     fn binary_rest(
         &self,
         level: BinaryLevel,
@@ -111,7 +111,8 @@ impl<
         tokens.skip_lines();
         let right = self
             .below
-            .inner_expression(right_operand(level), at, tokens)?;
+            .inner_expression(right_operand(level), at, tokens);
+        let (left, right) = beside(left, right)?;
         Ok(Turn::More(binary(self.below.alloc, operator, left, right)?))
     }
 
@@ -136,6 +137,7 @@ impl<
         )
     }
 
+    /// `conjunction (n '||' n conjunction)*`
     fn disjunction(&self, at: Context, tokens: &mut Tokens<'_>) -> Result<Expression, ParseError>
         requires { AreRead self.now.below.room (E.pre self.now.below.expression) (E.post self.now.below.expression)
             (S.pre self.now.below.statement) (S.post self.now.below.statement) }
@@ -145,6 +147,7 @@ impl<
         self.chain(BinaryLevel::Disjunction, at, first, tokens)
     }
 
+    /// `equality (n '&&' n equality)*`
     fn conjunction(&self, at: Context, tokens: &mut Tokens<'_>) -> Result<Expression, ParseError>
         requires { AreRead self.now.below.room (E.pre self.now.below.expression) (E.post self.now.below.expression)
             (S.pre self.now.below.statement) (S.post self.now.below.statement) }
@@ -154,6 +157,7 @@ impl<
         self.chain(BinaryLevel::Conjunction, at, first, tokens)
     }
 
+    /// `comparison (('==' | '!=') n comparison)*`
     fn equality(&self, at: Context, tokens: &mut Tokens<'_>) -> Result<Expression, ParseError>
         requires { AreRead self.now.below.room (E.pre self.now.below.expression) (E.post self.now.below.expression)
             (S.pre self.now.below.statement) (S.post self.now.below.statement) }
@@ -173,6 +177,7 @@ impl<
         self.comparison_behind(at, left, tokens)
     }
 
+    /// `(operator n right)?`, behind the left operand.
     fn comparison_behind(
         &self,
         at: Context,
@@ -199,6 +204,7 @@ impl<
         self.type_check_behind(value, tokens)
     }
 
+    /// `(('is' | '!is') n type)?`, behind the value.
     fn type_check_behind(
         &self,
         value: Expression,
@@ -209,13 +215,14 @@ impl<
         ensures { ReadsAs expression_tree
             (rules.type_check_behind self.now.below.room (expression_tree value) tokens.old) result tokens.new }
     {
-        let allowed = self.below.has_room(&value);
+        let allowed = self.below.has_more(&value);
         match take_type_check(allowed, tokens) {
             Some((_, negated)) => self.type_check_rest(value, negated, tokens),
             None => Ok(value),
         }
     }
 
+    /// `n type`, behind `is` or `!is`.
     fn type_check_rest(
         &self,
         value: Expression,
@@ -228,10 +235,12 @@ impl<
             (rules.type_check_rest self.now.below.room (expression_tree value) negated tokens.old) result tokens.new }
     {
         tokens.skip_lines();
-        let written = read_type(self.below.alloc, self.below.room + 1, tokens)?;
+        let written = read_type(self.below.alloc, self.below.room + 1, tokens);
+        let (value, written) = beside(value, written)?;
         Ok(type_check(self.below.alloc, value, negated, written)?)
     }
 
+    /// `infixed (n '?:' n infixed)*`
     fn elvis(&self, at: Context, tokens: &mut Tokens<'_>) -> Result<Expression, ParseError>
         requires { AreRead self.now.below.room (E.pre self.now.below.expression) (E.post self.now.below.expression)
             (S.pre self.now.below.statement) (S.post self.now.below.statement) }
@@ -241,6 +250,7 @@ impl<
         self.chain(BinaryLevel::Elvis, at, first, tokens)
     }
 
+    /// `additive (infix n additive)*`, with `and`, `shl` or one of their kin between the operands.
     fn infixed(&self, at: Context, tokens: &mut Tokens<'_>) -> Result<Expression, ParseError>
         requires { AreRead self.now.below.room (E.pre self.now.below.expression) (E.post self.now.below.expression)
             (S.pre self.now.below.statement) (S.post self.now.below.statement) }
@@ -250,6 +260,7 @@ impl<
         self.chain(BinaryLevel::Infix, at, first, tokens)
     }
 
+    /// `multiplicative (('+' | '-') n multiplicative)*`
     fn additive(&self, at: Context, tokens: &mut Tokens<'_>) -> Result<Expression, ParseError>
         requires { AreRead self.now.below.room (E.pre self.now.below.expression) (E.post self.now.below.expression)
             (S.pre self.now.below.statement) (S.post self.now.below.statement) }
@@ -259,6 +270,7 @@ impl<
         self.chain(BinaryLevel::Additive, at, first, tokens)
     }
 
+    /// `cast (('*' | '/' | '%') n cast)*`
     fn multiplicative(&self, at: Context, tokens: &mut Tokens<'_>) -> Result<Expression, ParseError>
         requires { AreRead self.now.below.room (E.pre self.now.below.expression) (E.post self.now.below.expression)
             (S.pre self.now.below.statement) (S.post self.now.below.statement) }
@@ -268,6 +280,7 @@ impl<
         self.chain(BinaryLevel::Multiplicative, at, first, tokens)
     }
 
+    /// `prefix (('as' | 'as?') n type)*`
     fn cast(&self, at: Context, tokens: &mut Tokens<'_>) -> Result<Expression, ParseError>
         requires { AreRead self.now.below.room (E.pre self.now.below.expression) (E.post self.now.below.expression)
             (S.pre self.now.below.statement) (S.post self.now.below.statement) }
@@ -292,13 +305,14 @@ impl<
         ensures { ReadsAs (turn_tree expression_tree expression_tree)
             (rules.cast_turn self.now.below.room (expression_tree value) tokens.old) result tokens.new }
     {
-        let allowed = self.below.has_room(&value);
+        let allowed = self.below.has_more(&value);
         match take_cast(allowed, tokens) {
             Some((_, safe)) => self.cast_rest(value, safe, tokens),
             None => Ok(Turn::Done(value)),
         }
     }
 
+    /// `n type`, behind `as` or `as?`.
     fn cast_rest(
         &self,
         value: Expression,
@@ -311,7 +325,8 @@ impl<
             (rules.cast_rest self.now.below.room (expression_tree value) safe tokens.old) result tokens.new }
     {
         tokens.skip_lines();
-        let written = read_type(self.below.alloc, self.below.room + 1, tokens)?;
+        let written = read_type(self.below.alloc, self.below.room + 1, tokens);
+        let (value, written) = beside(value, written)?;
         Ok(Turn::More(cast(self.below.alloc, value, safe, written)?))
     }
 
@@ -327,6 +342,7 @@ impl<
         }
     }
 
+    /// `operand`, behind this `-` or `!`.
     fn prefix_rest(
         &self,
         start: &Token,

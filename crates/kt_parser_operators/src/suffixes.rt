@@ -6,60 +6,25 @@ ghost use Rattle.kt_grammar.specs.StatementParser.{parsers};
 ghost use Rattle.kt_parser_steps.specs.Steps.{ReadsAs};
 ghost use Rattle.kt_tree.specs.Bodies.{expression_tree};
 ghost use Rattle.kt_parser_operators.specs.Rules as rules;
-ghost use Rattle.kt_parser_operators.specs.Suffixes.{suffix_tree};
 ghost use Rattle.kt_grammar.specs.ExpressionParser as parser;
 ghost use Rattle.kt_grammar.specs.Levels as grammar;
 ghost use Rattle.kt_parser_steps.specs.Steps.{turn_tree};
-ghost use Rattle.kt_grammar.specs.declared.error.ParseError.TheVariants as parse_error;
 ghost use Rattle.kt_tree.specs.Types.{type_tree};
-ghost use Rattle.std.specs.Prelude.{◌≡◌, ◌+◌, IfErr, IfOk, map, suc};
+ghost use Rattle.std.specs.Prelude.{◌≡◌, map, suc};
 
 use crate::operators::Operators;
-use kt_base::Name;
-use kt_grammar::{Context, ParseError, TokenClass, Tokens};
+use kt_grammar::Context;
 use kt_parser_blocks::Precedence;
 use kt_parser_primaries::Primaries;
 use kt_parser_steps::{
-    Node, Turn, attempt_if, class_ahead, expect, expect_identifier, maybe_comma_list, name_of,
-    repeat, sign_if, take_member,
+    ParseError, TokenClass, Tokens, Turn, attempt_if, beside, class_ahead, class_ahead_if, expect,
+    expect_identifier, maybe_comma_list, name_of, repeat, sign_ahead, sign_if, take_member,
 };
 use kt_parser_types::type_arguments;
 use kt_tree::{Expression, ExpressionKind, Sign, Statement, TypeReference};
 use kt_tree_nodes::expressions::{call, index, member, not_null};
 use sqlite_items::Items;
 use std::alloc::Global;
-
-/// A suffix that is no call.
-#[derive(Drop)]
-pub(crate) enum Suffix {
-    /// `!!`
-    NotNull,
-    /// `[` `]`
-    Index(Expression),
-    /// `.` and a name, or `?.` where the first is true.
-    Member(bool, Name),
-}
-
-impl Node for Suffix {
-    ghost use Rattle.kt_parser_operators.specs.Suffixes.{suffix_tree};
-    ghost use Rattle.kt_tree.specs.Bodies.{ExpressionTree};
-
-    ghost Tree = { ExpressionTree → ExpressionTree };
-
-    ghost tree = { suffix_tree };
-}
-
-/// The value with the suffix behind it.
-fn with_suffix(alloc: Global, value: Expression, suffix: Suffix) -> Result<Expression, ParseError>
-    ensures whole { IfOk result (λ whole. expression_tree whole ≡ suffix_tree suffix (expression_tree value)) }
-    ensures memory { IfErr result (λ e. e ≡ parse_error.NoMemory) }
-{
-    Ok(match suffix {
-        Suffix::NotNull => not_null(alloc, value)?,
-        Suffix::Index(at) => index(alloc, value, at)?,
-        Suffix::Member(safe, name) => member(alloc, value, safe, name)?,
-    })
-}
 
 /// Whether a name stands last, so that type arguments may follow.
 fn ends_in_name(value: &Expression) -> bool
@@ -76,6 +41,7 @@ impl<
         + Copy,
     S: Fn(Global, u32, Context, &mut Tokens<'_>) -> Result<Statement, ParseError> + Copy,
 > Operators<E, S> {
+    /// `value`, or `value` with the suffix that comes next, where there is room for it.
     fn suffix_turn(
         &self,
         at: Context,
@@ -91,15 +57,16 @@ impl<
             ends_in_name(&value),
             tokens,
             &|tokens: &mut Tokens<'_>| self.type_arguments_of_call(tokens),
-        )?;
+        );
+        let (value, types) = beside(value, types)?;
         match types {
-            Some(types) => self.typed_call_rest(at, value, types, tokens),
+            Some(types) => self.call_rest(at, value, types, tokens),
             None => self.plain_suffix_turn(at, value, tokens),
         }
     }
 
-    /// A call behind its type arguments.
-    fn typed_call_rest(
+    /// `arguments`, those of a call, behind its type arguments.
+    fn call_rest(
         &self,
         at: Context,
         value: Expression,
@@ -109,10 +76,11 @@ impl<
         requires { AreRead self.now.below.room (E.pre self.now.below.expression) (E.post self.now.below.expression)
             (S.pre self.now.below.statement) (S.post self.now.below.statement) }
         ensures { ReadsAs (turn_tree expression_tree expression_tree)
-            (rules.typed_call_rest self.now.below.room at (expression_tree value) (map type_tree types) tokens.old)
+            (rules.call_rest self.now.below.room at (expression_tree value) (map type_tree types) tokens.old)
             result tokens.new }
     {
-        let arguments = self.call_arguments(at, tokens)?;
+        let arguments = self.call_arguments(at, tokens);
+        let ((value, types), arguments) = beside((value, types), arguments)?;
         Ok(Turn::More(call(self.below.alloc, value, types, arguments)?))
     }
 
@@ -179,21 +147,15 @@ impl<
         ensures { ReadsAs (turn_tree expression_tree expression_tree)
             (rules.plain_suffix_turn self.now.below.room at (expression_tree value) tokens.old) result tokens.new }
     {
-        let arguments = attempt_if(
-            self.has_call(&value),
-            tokens,
-            &|tokens: &mut Tokens<'_>| self.call_arguments(at, tokens),
-        )?;
-        match arguments {
-            Some(arguments) => {
-                let types = Items::new(self.below.alloc);
-                Ok(Turn::More(call(self.below.alloc, value, types, arguments)?))
-            }
-            None => self.other_suffix_turn(at, value, tokens),
+        let allowed = self.has_call(&value);
+        if class_ahead_if(allowed, tokens, TokenClass::OpensArguments) {
+            self.call_rest(at, value, Items::new(self.below.alloc), tokens)
+        } else {
+            self.other_suffix_turn(at, value, tokens)
         }
     }
 
-    /// A suffix that is no call.
+    /// A suffix that is no call: `'!!'`, an element, or a member.
     fn other_suffix_turn(
         &self,
         at: Context,
@@ -205,54 +167,66 @@ impl<
         ensures { ReadsAs (turn_tree expression_tree expression_tree)
             (rules.other_suffix_turn self.now.below.room at (expression_tree value) tokens.old) result tokens.new }
     {
-        let suffix = attempt_if(
-            self.below.has_room(&value),
-            tokens,
-            &|tokens: &mut Tokens<'_>| self.suffix(at, tokens),
-        )?;
-        match suffix {
-            Some(suffix) => Ok(Turn::More(with_suffix(self.below.alloc, value, suffix)?)),
-            None => Ok(Turn::Done(value)),
-        }
-    }
-
-    /// `'!!'`, an index, or a member.
-    fn suffix(&self, at: Context, tokens: &mut Tokens<'_>) -> Result<Suffix, ParseError>
-        requires { AreRead self.now.below.room (E.pre self.now.below.expression) (E.post self.now.below.expression)
-            (S.pre self.now.below.statement) (S.post self.now.below.statement) }
-        ensures { ReadsAs suffix_tree (rules.suffix self.now.below.room at tokens.old) result tokens.new }
-    {
-        match tokens.take_sign(Sign::NotNull) {
-            Some(_) => Ok(Suffix::NotNull),
-            None => match sign_if(self.below.is_deep(), tokens, Sign::OpenBracket) {
-                Some(_) => self.index_rest(at, tokens),
-                None => self.member_suffix(tokens),
+        let allowed = self.below.has_more(&value);
+        match sign_if(allowed, tokens, Sign::NotNull) {
+            Some(_) => Ok(Turn::More(not_null(self.below.alloc, value)?)),
+            None => match sign_if(allowed, tokens, Sign::OpenBracket) {
+                Some(_) => self.element_rest(at, value, tokens),
+                None => self.member_turn(allowed, value, tokens),
             },
         }
     }
 
-    /// Behind `[`.
-    fn index_rest(&self, at: Context, tokens: &mut Tokens<'_>) -> Result<Suffix, ParseError>
+    /// `expr ']'`, behind `[`.
+    fn element_rest(
+        &self,
+        at: Context,
+        value: Expression,
+        tokens: &mut Tokens<'_>,
+    ) -> Result<Turn<Expression, Expression>, ParseError>
         requires { AreRead self.now.below.room (E.pre self.now.below.expression) (E.post self.now.below.expression)
             (S.pre self.now.below.statement) (S.post self.now.below.statement) }
-        ensures { ReadsAs suffix_tree (rules.index_rest self.now.below.room at tokens.old) result tokens.new }
+        ensures { ReadsAs (turn_tree expression_tree expression_tree)
+            (rules.element_rest self.now.below.room at (expression_tree value) tokens.old) result tokens.new }
     {
         let element = self
             .below
-            .inner_expression(Precedence::Disjunction, at, tokens)?;
-        expect(tokens, Sign::CloseBracket)?;
-        Ok(Suffix::Index(element))
+            .inner_expression(Precedence::Disjunction, at, tokens);
+        let (value, element) = beside(value, element)?;
+        let ((value, element), _) = beside((value, element), expect(tokens, Sign::CloseBracket))?;
+        Ok(Turn::More(index(self.below.alloc, value, element)?))
     }
 
-    /// `('.' | '?.') ID`, also behind line ends.
-    fn member_suffix(&self, tokens: &mut Tokens<'_>) -> Result<Suffix, ParseError>
-        ensures { ReadsAs suffix_tree (rules.member_suffix tokens.old) result tokens.new }
+    /// `(n ('.' | '?.') n ID)?`
+    fn member_turn(
+        &self,
+        allowed: bool,
+        value: Expression,
+        tokens: &mut Tokens<'_>,
+    ) -> Result<Turn<Expression, Expression>, ParseError>
+        ensures { ReadsAs (turn_tree expression_tree expression_tree)
+            (rules.member_turn allowed (expression_tree value) tokens.old) result tokens.new }
+    {
+        match take_member(allowed, tokens) {
+            Some((_, safe)) => self.member_rest(value, safe, tokens),
+            None => Ok(Turn::Done(value)),
+        }
+    }
+
+    /// `n ID`, behind the sign of a member.
+    fn member_rest(
+        &self,
+        value: Expression,
+        safe: bool,
+        tokens: &mut Tokens<'_>,
+    ) -> Result<Turn<Expression, Expression>, ParseError>
+        ensures { ReadsAs (turn_tree expression_tree expression_tree)
+            (rules.member_rest (expression_tree value) safe tokens.old) result tokens.new }
     {
         tokens.skip_lines();
-        let safe = member_sign(tokens)?;
-        tokens.skip_lines();
-        let token = expect_identifier(tokens)?;
-        Ok(Suffix::Member(safe, name_of(self.below.alloc, token)?))
+        let (value, token) = beside(value, expect_identifier(tokens))?;
+        let (value, name) = beside(value, name_of(self.below.alloc, token))?;
+        Ok(Turn::More(member(self.below.alloc, value, safe, name)?))
     }
 
     /// The arguments of a call: in parentheses and perhaps a lambda behind them, or a lambda alone.
@@ -325,10 +299,11 @@ impl<
         self.with_lambda(at, arguments, tokens)
     }
 
+    /// `lambda?`, behind the `)`: the last of the arguments. It is there where a `{` is.
     fn with_lambda(
         &self,
         at: Context,
-        mut arguments: Items<Expression>,
+        arguments: Items<Expression>,
         tokens: &mut Tokens<'_>,
     ) -> Result<Items<Expression>, ParseError>
         requires { AreRead self.now.below.room (E.pre self.now.below.expression) (E.post self.now.below.expression)
@@ -336,27 +311,28 @@ impl<
         ensures { ReadsAs (map expression_tree)
             (rules.with_lambda self.now.below.room at (map expression_tree arguments) tokens.old) result tokens.new }
     {
-        let lambda = attempt_if(
-            self.below.is_deep(),
-            tokens,
-            &|tokens: &mut Tokens<'_>| self.below.inner_lambda(at, tokens),
-        )?;
-        match lambda {
-            Some(lambda) => {
-                arguments.push(lambda)?;
-                Ok(arguments)
-            }
-            None => Ok(arguments),
+        if sign_ahead(tokens, Sign::OpenBrace) {
+            self.lambda_behind(at, arguments, tokens)
+        } else {
+            Ok(arguments)
         }
     }
-}
 
-/// `'.'`, or `'?.'`, which is told as true.
-fn member_sign(tokens: &mut Tokens<'_>) -> Result<bool, ParseError>
-    ensures { ReadsAs (λ safe. safe) (rules.member_sign tokens.old) result tokens.new }
-{
-    match take_member(true, tokens) {
-        Some((_, safe)) => Ok(safe),
-        None => Err(ParseError::Refused),
+    /// `lambda`, behind the arguments in parentheses.
+    fn lambda_behind(
+        &self,
+        at: Context,
+        arguments: Items<Expression>,
+        tokens: &mut Tokens<'_>,
+    ) -> Result<Items<Expression>, ParseError>
+        requires { AreRead self.now.below.room (E.pre self.now.below.expression) (E.post self.now.below.expression)
+            (S.pre self.now.below.statement) (S.post self.now.below.statement) }
+        ensures { ReadsAs (map expression_tree)
+            (rules.lambda_behind self.now.below.room at (map expression_tree arguments) tokens.old) result tokens.new }
+    {
+        let lambda = self.below.inner_lambda(at, tokens);
+        let (mut arguments, lambda) = beside(arguments, lambda)?;
+        arguments.push(lambda)?;
+        Ok(arguments)
     }
 }

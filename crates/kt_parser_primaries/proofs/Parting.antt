@@ -7,7 +7,7 @@ use Rattle.kt_tree.specs.declared.bodies.StringPart.{StringPart}
 use Rattle.kt_tree.specs.Bodies.{ExpressionTree, PartTree, part_tree, parts_of, template}
 use Rattle.kt_tree.specs.Levels.{counted, parts_levels}
 use Rattle.kt_grammar.specs.declared.context.Context.{Context}
-use Rattle.kt_grammar.specs.Parsers.{Cursor, Outcome}
+use Rattle.kt_grammar_parsers.specs.Parsers.{Cursor, Outcome}
 use Rattle.kt_grammar.specs.ExpressionParser as p
 use Rattle.kt_grammar.specs.ExpressionParser.{Parsers}
 use Rattle.kt_grammar.specs.StatementParser.{parsers}

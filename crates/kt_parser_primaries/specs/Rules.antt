@@ -9,8 +9,8 @@ use Rattle.kt_tree.specs.Tokens.{is_keyword, is_sign, is_identifier}
 use Rattle.kt_tree.specs.Bodies as e
 use Rattle.kt_tree.specs.Bodies.{ExpressionTree, PartTree}
 use Rattle.kt_grammar.specs.declared.context.Context.{Context}
-use Rattle.kt_grammar.specs.Parsers.{Parser, some_levels, ◌>>=◌, ◌>>◌, pure, on, attempt_if, repeat}
-use Rattle.kt_grammar.specs.Terminals.{name_of, is_open_quote, literal_of, text_of}
+use Rattle.kt_grammar_parsers.specs.Parsers.{Parser, ◌>>=◌, ◌>>◌, pure, on, where_next, repeat}
+use Rattle.kt_grammar.specs.Terminals.{begins_expression, name_of, is_open_quote, literal_of, text_of}
 use Rattle.kt_grammar.specs.Readers.{meant, on_if, lines, expect}
 use Rattle.kt_grammar.specs.ExpressionParser as p
 use Rattle.kt_grammar.specs.StatementParser.{parsers}
@@ -54,9 +54,11 @@ module _ (n : ℕ) (at : Context) where
   braced = on (is_sign sign.OpenBrace) (lambda_rest n)
       (on (is_keyword word.When) (when_rest n at) (on (is_keyword word.Try) (try_rest n at) atom))
 
+  abbrev pub returned_value : Token → Parser Token ExpressionTree
+  returned_value t = (parsers n).disjunction at >>= (λ a. pure (e.return t.pos (e.some_expression a)))
+
   abbrev pub return_rest : Token → Parser Token ExpressionTree
-  return_rest t = attempt_if (some_levels (parsers n).levels) ((parsers n).disjunction at)
-      (λ a. pure (e.return t.pos (e.some_expression a))) (pure (e.return t.pos e.no_expression))
+  return_rest t = where_next begins_expression (returned_value t) (pure (e.return t.pos e.no_expression))
 
   abbrev pub jump : Parser Token ExpressionTree
   jump = on_if (not at.in_lambda) (is_keyword word.Return) return_rest

@@ -5,9 +5,12 @@ ghost use Rattle.kt_parser_steps.specs.Steps.{ReadsAs};
 ghost use Rattle.kt_tree.specs.Bodies.{expression_tree};
 ghost use Rattle.kt_parser_primaries.specs.Rules as rules;
 
-use kt_grammar::{Context, ParseError, TokenClass, Tokens};
+use kt_grammar::Context;
 use kt_parser_blocks::{Below, Precedence};
-use kt_parser_steps::{attempt_if, expect, keyword_if, name_of, sign_if, take_literal};
+use kt_parser_steps::{
+    ParseError, TokenClass, Tokens, beside, class_ahead, expect, keyword_if, name_of, sign_if,
+    take_literal,
+};
 use kt_tree::{Expression, Keyword, Sign, Statement, Token};
 use kt_tree_nodes::expressions::{
     break_loop, continue_loop, literal, name, parenthesized, return_with, this, throw,
@@ -45,7 +48,7 @@ impl<
         }
     }
 
-    /// Behind `(`.
+    /// `expr ')'`, behind this `(`.
     fn parenthesized_rest(
         &self,
         start: &Token,
@@ -60,11 +63,11 @@ impl<
         let inner = self
             .below
             .inner_expression(Precedence::Disjunction, at, tokens)?;
-        expect(tokens, Sign::CloseParenthesis)?;
+        let (inner, _) = beside(inner, expect(tokens, Sign::CloseParenthesis))?;
         Ok(parenthesized(self.below.alloc, start.pos, inner)?)
     }
 
-    /// Behind `throw`.
+    /// `expr`, behind this `throw`.
     fn throw_rest(
         &self,
         start: &Token,
@@ -100,7 +103,7 @@ impl<
         }
     }
 
-    /// Behind `return`: a value, where what follows reads as one.
+    /// `expr?`, behind this `return`: a value, where the next token begins an expression.
     fn return_rest(
         &self,
         start: &Token,
@@ -112,14 +115,29 @@ impl<
         ensures { ReadsAs expression_tree (rules.return_rest self.now.below.room at start.now tokens.old)
             result tokens.new }
     {
-        let value = attempt_if(
-            self.below.is_deep(),
-            tokens,
-            &|tokens: &mut Tokens<'_>| self
-                .below
-                .inner_expression(Precedence::Disjunction, at, tokens),
-        )?;
-        Ok(return_with(self.below.alloc, start.pos, value)?)
+        if class_ahead(tokens, TokenClass::BeginsExpression) {
+            self.returned_value(start, at, tokens)
+        } else {
+            Ok(return_with(self.below.alloc, start.pos, None)?)
+        }
+    }
+
+    /// `expr`, behind this `return`.
+    fn returned_value(
+        &self,
+        start: &Token,
+        at: Context,
+        tokens: &mut Tokens<'_>,
+    ) -> Result<Expression, ParseError>
+        requires { AreRead self.now.below.room (E.pre self.now.below.expression) (E.post self.now.below.expression)
+            (S.pre self.now.below.statement) (S.post self.now.below.statement) }
+        ensures { ReadsAs expression_tree (rules.returned_value self.now.below.room at start.now tokens.old)
+            result tokens.new }
+    {
+        let value = self
+            .below
+            .inner_expression(Precedence::Disjunction, at, tokens)?;
+        Ok(return_with(self.below.alloc, start.pos, Some(value))?)
     }
 
     /// A lambda literal, `when`, `try`, or another primary expression.
@@ -159,6 +177,7 @@ impl<
     }
 }
 
+/// A literal that is no string.
 fn literal_atom(tokens: &mut Tokens<'_>) -> Result<Expression, ParseError>
     ensures { ReadsAs expression_tree (rules.literal_atom tokens.old) result tokens.new }
 {

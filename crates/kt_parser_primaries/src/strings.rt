@@ -11,9 +11,11 @@ ghost use Rattle.std.specs.Prelude.{map};
 use crate::parts::Parts;
 use crate::primaries::Primaries;
 use kt_base::Pos;
-use kt_grammar::{Context, ParseError, TokenClass, Tokens};
+use kt_grammar::Context;
 use kt_parser_blocks::Precedence;
-use kt_parser_steps::{Turn, class_if, expect, meant_text, name_of, repeat};
+use kt_parser_steps::{
+    ParseError, TokenClass, Tokens, Turn, beside, class_if, expect, meant_text, name_of, repeat,
+};
 use kt_tree::{Expression, Sign, Statement, StringPart};
 use kt_tree_nodes::strings::{hole, name_part, template, text, this_part};
 use std::alloc::Global;
@@ -23,7 +25,7 @@ impl<
         + Copy,
     S: Fn(Global, u32, Context, &mut Tokens<'_>) -> Result<Statement, ParseError> + Copy,
 > Primaries<E, S> {
-    /// Behind the `"` that begins a string.
+    /// `part* '"'`, behind the `"` at this place.
     pub(crate) fn string_rest(
         &self,
         start: Pos,
@@ -61,10 +63,11 @@ impl<
         }
     }
 
+    /// One part more.
     fn further_part(
         &self,
         at: Context,
-        mut parts: Parts,
+        parts: Parts,
         tokens: &mut Tokens<'_>,
     ) -> Result<Turn<Parts, Expression>, ParseError>
         requires { AreRead self.now.below.room (E.pre self.now.below.expression) (E.post self.now.below.expression)
@@ -72,7 +75,8 @@ impl<
         ensures { ReadsAs (turn_tree (map part_tree) expression_tree)
             (rules.further_part self.now.below.room at (map part_tree parts) tokens.old) result tokens.new }
     {
-        let part = self.next_part(at, &parts, tokens)?;
+        let part = self.next_part(at, &parts, tokens);
+        let (mut parts, part) = beside(parts, part)?;
         parts.push(part)?;
         Ok(Turn::More(parts))
     }
@@ -120,7 +124,7 @@ impl<
         }
     }
 
-    /// Behind `${`.
+    /// `n expr n '}'`, behind `${`.
     fn hole_rest(&self, at: Context, tokens: &mut Tokens<'_>) -> Result<StringPart, ParseError>
         requires { AreRead self.now.below.room (E.pre self.now.below.expression) (E.post self.now.below.expression)
             (S.pre self.now.below.statement) (S.post self.now.below.statement) }
@@ -131,11 +135,12 @@ impl<
             .below
             .inner_expression(Precedence::Disjunction, at, tokens)?;
         tokens.skip_lines();
-        expect(tokens, Sign::CloseBrace)?;
+        let (inner, _) = beside(inner, expect(tokens, Sign::CloseBrace))?;
         Ok(hole(self.below.alloc, inner)?)
     }
 }
 
+/// A run of characters, an escape, or a `$` before anything else.
 fn text_rest(tokens: &mut Tokens<'_>) -> Result<StringPart, ParseError>
     ensures { ReadsAs part_tree (rules.text_rest tokens.old) result tokens.new }
 {

@@ -2,7 +2,7 @@
 use Rattle.std.proofs.Common.{◌≡◌, ℕ, suc, ◌+◌, Err, ap, ◌∙◌}
 use Rattle.kt_tree.specs.declared.tokens.Token.{Token}
 use Rattle.kt_grammar.specs.declared.context.Context.{Context}
-use Rattle.kt_grammar.specs.Parsers.{Cursor, further}
+use Rattle.kt_grammar_parsers.specs.Parsers.{Cursor, further}
 use Rattle.kt_grammar.specs.ExpressionParser as p
 use Rattle.kt_grammar.specs.ExpressionParser.{Parsers}
 use Rattle.kt_grammar.specs.StatementParser as s

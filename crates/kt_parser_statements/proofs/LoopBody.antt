@@ -5,7 +5,7 @@ use Rattle.kt_tree.specs.declared.bodies.RangeOperator.{RangeOperator}
 use Rattle.kt_tree.specs.Bodies.{ExpressionTree}
 use Rattle.kt_tree.specs.Tokens.{is_new_line}
 use Rattle.kt_grammar.specs.declared.context.Context.{Context}
-use Rattle.kt_grammar.specs.Parsers.{Cursor, skip}
+use Rattle.kt_grammar_parsers.specs.Parsers.{Cursor, skip}
 use Rattle.kt_grammar.specs.StatementParser.{parsers}
 use Rattle.kt_grammar.specs.Statements.{in_loop}
 use Rattle.kt_parser_statements.specs.Rules as rules

@@ -10,7 +10,7 @@ use Rattle.kt_tree.specs.Bodies as e
 use Rattle.kt_tree.specs.Bodies.{ExpressionTree, StatementTree}
 use Rattle.kt_grammar.specs.declared.context.Context.{Context}
 use Rattle.kt_grammar.specs.Declarations.{outside}
-use Rattle.kt_grammar.specs.Parsers.{Cursor, Parser, some_levels, first, ◌>>=◌, ◌>>◌, pure, attempt_if}
+use Rattle.kt_grammar_parsers.specs.Parsers.{Cursor, Parser, some_levels, first, ◌>>=◌, ◌>>◌, pure, attempt_if}
 use Rattle.kt_grammar.specs.Terminals.{name_of, assignment_of, step_of, range_of}
 use Rattle.kt_grammar.specs.Levels.{place}
 use Rattle.kt_grammar.specs.Readers.{meant, on_if, lines, expect}
@@ -52,17 +52,12 @@ module _ (n : ℕ) (at : Context) where
   abbrev pub for_body : Token → Token → ExpressionTree → RangeOperator → ExpressionTree → Parser Token StatementTree
   for_body t x a o b = lines >> ((parsers n).body (in_loop at) >>= (λ body. pure (e.for t.pos (name_of x) a o b body)))
 
-  -- behind its bounds
-  abbrev pub for_end : Token → Token → ExpressionTree → RangeOperator → ExpressionTree → Parser Token StatementTree
-  for_end t x a o b = expect sign.CloseParenthesis >> for_body t x a o b
-
-  -- behind `..` or `until`
-  abbrev pub for_bound : Token → Token → ExpressionTree → RangeOperator → Parser Token StatementTree
-  for_bound t x a o = (parsers n).additive at >>= (λ b. for_end t x a o b)
-
   -- behind `in`
   abbrev pub for_range : Token → Token → Parser Token StatementTree
-  for_range t x = (parsers n).additive at >>= (λ a. meant range_of >>= (λ o. for_bound t x a o.1))
+  for_range t x = (parsers n).additive at
+      >>= (λ a. meant range_of
+      >>= (λ o. (parsers n).additive at
+      >>= (λ b. expect sign.CloseParenthesis >> for_body t x a o.1 b)))
 
   abbrev pub for_rest : Token → Parser Token StatementTree
   for_rest = s.for_rest (suc n) (parsers n) at

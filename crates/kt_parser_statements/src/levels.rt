@@ -9,9 +9,10 @@ ghost use Rattle.kt_tree.specs.Bodies.{block_tree};
 ghost use Rattle.std.specs.Prelude.{◌+◌, ◌<◌, ◌^◌};
 
 use crate::statements::Statements;
-use kt_grammar::{Context, ParseError, Tokens};
+use kt_grammar::Context;
 use kt_parser_blocks::{Below, Precedence};
 use kt_parser_operators::Operators;
+use kt_parser_steps::{ParseError, Tokens};
 use kt_tree::{Block, Expression, Statement};
 use std::alloc::Global;
 

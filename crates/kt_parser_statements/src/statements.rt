@@ -1,7 +1,7 @@
 //! Statements.
 
 ghost use Rattle.kt_parser_blocks.specs.Below.{AreRead};
-ghost use Rattle.kt_parser_steps.specs.Steps.{ReadsAs};
+ghost use Rattle.kt_parser_steps.specs.Steps.{Expects, ReadsAs};
 ghost use Rattle.kt_tree.specs.Bodies as tree;
 ghost use Rattle.kt_tree.specs.Bodies.{body_tree, expression_tree, statement_tree};
 ghost use Rattle.kt_parser_statements.specs.Rules as rules;
@@ -14,12 +14,13 @@ ghost use Rattle.kt_parser_steps.specs.Chosen.{found_token};
 ghost use Rattle.std.specs.Prelude.{◌≡◌, IfOk, option_map};
 
 use kt_base::NoMemory;
-use kt_grammar::{Context, ParseError, Tokens};
+use kt_grammar::Context;
 use kt_parser_blocks::{Below, Precedence};
 use kt_parser_operators::Operators;
 use kt_parser_steps::{
-    expect, expect_identifier, expect_keyword, keyword_if, name_of, sign_ahead, sign_if,
-    take_assignment_operator, take_range_operator, take_step_operator, take_variable,
+    ParseError, Refused, Tokens, beside, expect, expect_identifier, expect_keyword, keyword_if,
+    name_of, sign_if, take_assignment_operator, take_range_operator, take_step_operator,
+    take_variable,
 };
 use kt_parser_types::annotation;
 use kt_tree::{
@@ -127,7 +128,7 @@ impl<
         self.assignment_rest(at, target, tokens)
     }
 
-    /// Behind an expression.
+    /// `(assign-op n expr | step-op)?`, behind the target.
     fn assignment_rest(
         &self,
         at: Context,
@@ -149,7 +150,7 @@ impl<
         }
     }
 
-    /// The value, behind an operator of an assignment.
+    /// `n expr`, behind an operator of an assignment.
     fn assign_rest(
         &self,
         at: Context,
@@ -165,7 +166,8 @@ impl<
         tokens.skip_lines();
         let value = self
             .below
-            .inner_expression(Precedence::Disjunction, at, tokens)?;
+            .inner_expression(Precedence::Disjunction, at, tokens);
+        let (target, value) = beside(target, value)?;
         Ok(assign(self.below.alloc, target, operator, value)?)
     }
 
@@ -175,10 +177,10 @@ impl<
             (S.pre self.now.below.statement) (S.post self.now.below.statement) }
         ensures { result ≡ rules.assigns self.now.below.room (expression_tree target.now) }
     {
-        is_target(target) && self.below.has_room(target)
+        is_target(target) && self.below.has_more(target)
     }
 
-    /// Behind `val` or `var`.
+    /// `ID (':' type)? ('=' n expr)?`, behind this `val` or `var`.
     fn local_rest(
         &self,
         start: &Token,
@@ -194,7 +196,7 @@ impl<
         let token = expect_identifier(tokens)?;
         let name = name_of(self.below.alloc, token)?;
         let written = annotation(self.below.alloc, self.below.room + 1, tokens)?;
-        let initializer = self.initializer(at, tokens)?;
+        let (written, initializer) = beside(written, self.initializer(at, tokens))?;
         Ok(local(
             self.below.alloc,
             start.pos,
@@ -205,7 +207,7 @@ impl<
         )?)
     }
 
-    /// `('=' expr)?`
+    /// `('=' n expr)?`
     fn initializer(
         &self,
         at: Context,
@@ -222,6 +224,7 @@ impl<
         }
     }
 
+    /// `n expr`, behind `=`.
     fn initial_value(
         &self,
         at: Context,
@@ -239,7 +242,7 @@ impl<
         Ok(Some(value))
     }
 
-    /// Behind `while`. Its condition is not in the loop.
+    /// `'(' expr ')' n body`, behind this `while`. The condition is not in the loop.
     fn while_rest(
         &self,
         start: &Token,
@@ -255,13 +258,14 @@ impl<
         let condition = self
             .below
             .inner_expression(Precedence::Disjunction, at, tokens)?;
-        expect(tokens, Sign::CloseParenthesis)?;
+        let (condition, _) = beside(condition, expect(tokens, Sign::CloseParenthesis))?;
         tokens.skip_lines();
-        let body = self.below.inner_body(in_loop(at), tokens)?;
+        let body = self.below.inner_body(in_loop(at), tokens);
+        let (condition, body) = beside(condition, body)?;
         Ok(while_loop(self.below.alloc, start.pos, condition, body)?)
     }
 
-    /// Behind `do`.
+    /// `n block n 'while' '(' expr ')'`, behind this `do`.
     fn do_rest(
         &self,
         start: &Token,
@@ -275,16 +279,18 @@ impl<
         tokens.skip_lines();
         let body = self.below.block(in_loop(at), tokens)?;
         tokens.skip_lines();
-        expect_keyword(tokens, Keyword::While)?;
-        expect(tokens, Sign::OpenParenthesis)?;
+        let (body, _) = beside(body, expect_keyword(tokens, Keyword::While))?;
+        let (body, _) = beside(body, expect(tokens, Sign::OpenParenthesis))?;
         let condition = self
             .below
-            .inner_expression(Precedence::Disjunction, at, tokens)?;
-        expect(tokens, Sign::CloseParenthesis)?;
+            .inner_expression(Precedence::Disjunction, at, tokens);
+        let (body, condition) = beside(body, condition)?;
+        let close = expect(tokens, Sign::CloseParenthesis);
+        let ((body, condition), _) = beside((body, condition), close)?;
         Ok(do_while(self.below.alloc, start.pos, body, condition)?)
     }
 
-    /// Behind `for`.
+    /// `'(' ID 'in' first ('..' | 'until') bound ')' n body`, behind this `for`.
     fn for_rest(
         &self,
         start: &Token,
@@ -302,7 +308,7 @@ impl<
         self.for_range(start, variable, at, tokens)
     }
 
-    /// Behind `in`. The bounds are not in the loop.
+    /// `first ('..' | 'until') bound ')' n body`, behind `in`. The bounds are not in the loop.
     fn for_range(
         &self,
         start: &Token,
@@ -318,54 +324,16 @@ impl<
         let first = self
             .below
             .inner_expression(Precedence::Additive, at, tokens)?;
-        let (_, operator) = range_operator(tokens)?;
-        self.for_bound(start, variable, first, operator, at, tokens)
-    }
-
-    /// Behind `..` or `until`.
-    fn for_bound(
-        &self,
-        start: &Token,
-        variable: &Token,
-        first: Expression,
-        operator: RangeOperator,
-        at: Context,
-        tokens: &mut Tokens<'_>,
-    ) -> Result<Statement, ParseError>
-        requires { AreRead self.now.below.room (E.pre self.now.below.expression) (E.post self.now.below.expression)
-            (S.pre self.now.below.statement) (S.post self.now.below.statement) }
-        ensures { ReadsAs statement_tree
-            (rules.for_bound self.now.below.room at start.now variable.now (expression_tree first) operator tokens.old)
-            result tokens.new }
-    {
+        let (first, (_, operator)) = beside(first, range_operator(tokens))?;
         let bound = self
             .below
-            .inner_expression(Precedence::Additive, at, tokens)?;
-        self.for_end(start, variable, first, operator, bound, at, tokens)
-    }
-
-    /// Behind the bounds.
-    fn for_end(
-        &self,
-        start: &Token,
-        variable: &Token,
-        first: Expression,
-        operator: RangeOperator,
-        bound: Expression,
-        at: Context,
-        tokens: &mut Tokens<'_>,
-    ) -> Result<Statement, ParseError>
-        requires { AreRead self.now.below.room (E.pre self.now.below.expression) (E.post self.now.below.expression)
-            (S.pre self.now.below.statement) (S.post self.now.below.statement) }
-        ensures { ReadsAs statement_tree
-            (rules.for_end self.now.below.room at start.now variable.now (expression_tree first) operator
-            (expression_tree bound) tokens.old) result tokens.new }
-    {
-        expect(tokens, Sign::CloseParenthesis)?;
+            .inner_expression(Precedence::Additive, at, tokens);
+        let (first, bound) = beside(first, bound)?;
+        let ((first, bound), _) = beside((first, bound), expect(tokens, Sign::CloseParenthesis))?;
         self.for_body(start, variable, first, operator, bound, at, tokens)
     }
 
-    /// Behind `)`.
+    /// `n body`, behind the `)` of a `for`.
     fn for_body(
         &self,
         start: &Token,
@@ -383,7 +351,8 @@ impl<
             (expression_tree bound) tokens.old) result tokens.new }
     {
         tokens.skip_lines();
-        let body = self.below.inner_body(in_loop(at), tokens)?;
+        let body = self.below.inner_body(in_loop(at), tokens);
+        let ((first, bound), body) = beside((first, bound), body)?;
         Ok(for_variable(
             self.below.alloc,
             start,
@@ -410,7 +379,7 @@ fn for_variable(
         (λ s. statement_tree s ≡ tree.for start.now.pos (terminals.name_of variable.now) (expression_tree first)
         operator (expression_tree bound) (body_tree body)) }
 {
-    let name = name_of(alloc, variable)?;
+    let ((first, bound, body), name) = beside((first, bound, body), name_of(alloc, variable))?;
     for_loop(alloc, start.pos, name, first, operator, bound, body)
 }
 
@@ -424,11 +393,12 @@ fn begins_with_brace(tokens: &Tokens<'_>) -> bool
     }
 }
 
-fn range_operator<'a>(tokens: &mut Tokens<'a>) -> Result<(&'a Token, RangeOperator), ParseError>
-    ensures { ReadsAs found_token (meant range_of tokens.old) result tokens.new }
+/// `'..' | 'until'`
+fn range_operator<'a>(tokens: &mut Tokens<'a>) -> Result<(&'a Token, RangeOperator), Refused>
+    ensures { Expects found_token (meant range_of tokens.old) result tokens.new }
 {
     match take_range_operator(true, tokens) {
         Some(found) => Ok(found),
-        None => Err(ParseError::Refused),
+        None => Err(Refused),
     }
 }

@@ -3,9 +3,9 @@ use Rattle.std.proofs.Common.{◌≡◌, Bool, List, [], ◌∷◌, ◌++◌, So
 use Rattle.kt_tree.specs.declared.tokens.Token.{Token}
 use Rattle.kt_tree.specs.declared.tokens.Sign.TheVariants as sign
 use Rattle.kt_tree.specs.Tokens.{is_sign}
-use Rattle.kt_grammar.specs.Parsers.{Cursor, Parser, cursor, token, skip, ◌>>◌, more_turn}
-use Rattle.kt_grammar.specs.Cursors.{Turned}
-use Rattle.kt_grammar.proofs.Turns.{token_taken, token_missed}
+use Rattle.kt_grammar_parsers.specs.Parsers.{Cursor, Parser, cursor, token, skip, ◌>>◌, more_turn}
+use Rattle.kt_parser_steps.specs.Cursors.{Turned}
+use Rattle.kt_parser_steps.proofs.Turns.{token_taken, token_missed}
 use Rattle.kt_parser_steps.specs.declared.lists.Lead.{Lead}
 use Rattle.kt_parser_steps.specs.Steps.{lead_of, led_comma}
 use Rattle.kt_parser_steps.proofs.Ways.{attempt_ok, attempt_err}

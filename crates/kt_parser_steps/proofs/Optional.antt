@@ -1,6 +1,6 @@
 -- What a parser that takes nothing gives, and what is made of a part that may be absent.
 use Rattle.std.proofs.Common.{◌≡◌, Bool, Option, Some, None, Ok, refl, ap, sym, subst, option_map}
-use Rattle.kt_grammar.specs.Parsers.{Cursor, Parser, pure, attempt_if}
+use Rattle.kt_grammar_parsers.specs.Parsers.{Cursor, Parser, pure, attempt_if}
 use Rattle.kt_parser_steps.specs.Chosen.{FindsIf}
 use Rattle.kt_parser_steps.proofs.Choosing.{attempt_if_gives, attempt_if_passes}
 

@@ -2,10 +2,10 @@
 use Rattle.std.proofs.Common.{◌≡◌, ℕ, zero, suc, Bool, List, [], ◌∷◌, ◌++◌, Some, None, Result, Ok, Err, map, refl, ap, sym, subst, ◌∙◌, length, inl, inr, ◌⊎◌}
 use Rattle.kt_tree.specs.declared.tokens.Token.{Token}
 use Rattle.kt_base.specs.declared.refusals.Pos.{Pos}
-use Rattle.kt_grammar.specs.declared.error.ParseError.{ParseError}
-use Rattle.kt_grammar.specs.Parsers.{Cursor, Outcome, Parser, skip, ahead, and_then, again, loop, repeat, pure, ◌>>=◌, ◌>>◌, gap, item_turn, items}
-use Rattle.kt_grammar.specs.Cursors.{Turned}
-use Rattle.kt_grammar.proofs.Turns.{on_taken, on_missed}
+use Rattle.kt_parser_steps.specs.declared.error.ParseError.{ParseError}
+use Rattle.kt_grammar_parsers.specs.Parsers.{Cursor, Outcome, Parser, skip, ahead, and_then, again, loop, repeat, pure, ◌>>=◌, ◌>>◌, gap, item_turn, items}
+use Rattle.kt_parser_steps.specs.Cursors.{Turned}
+use Rattle.kt_parser_steps.proofs.Turns.{on_taken, on_missed}
 use Rattle.kt_parser_steps.specs.Steps.{ReadsAs, given, ended, place_of}
 
 -- ---- the gap

@@ -1,14 +1,14 @@
 -- A turn of a loop, and a turn of a list with commas.
 use Rattle.std.proofs.Common.{◌≡◌, ◌≢◌, Result, IsErr, IsErrAnd, ℕ, suc, ◌+◌, ◌-◌, ◌<◌, ◌≤◌, Bool, List, [], ◌∷◌, ◌++◌, Some, None, Ok, Err, map, refl, ap, sym, subst, ◌∙◌, arith, inl, inr, ◌⊎◌}
-use Rattle.kt_grammar.specs.Parsers.{Cursor, Parser, Outcome, further, loop, repeat, ◌>>=◌, token, comma_turn, comma_list, maybe_comma_list}
-use Rattle.kt_grammar.specs.Cursors.{Turned}
-use Rattle.kt_grammar.specs.declared.error.ParseError.{ParseError}
-use Rattle.kt_grammar.specs.declared.error.ParseError.TheVariants as parse_error
+use Rattle.kt_grammar_parsers.specs.Parsers.{Cursor, Parser, Outcome, further, loop, repeat, ◌>>=◌, token, comma_turn, comma_list, maybe_comma_list}
+use Rattle.kt_parser_steps.specs.Cursors.{Turned}
+use Rattle.kt_parser_steps.specs.declared.error.ParseError.{ParseError}
+use Rattle.kt_parser_steps.specs.declared.error.ParseError.TheVariants as parse_error
 use Rattle.std.proofs.lemmas.List.{map-append}
 use Rattle.kt_parser_steps.specs.Steps.{ReadsAs, turn_tree}
 use Rattle.kt_parser_steps.specs.declared.loops.Turn.{Turn}
 use Rattle.kt_parser_steps.specs.declared.loops.Turn.TheVariants as turns
-use Rattle.kt_grammar.proofs.Turns.{on_taken, on_missed}
+use Rattle.kt_parser_steps.proofs.Turns.{on_taken, on_missed}
 
 module _ {T S B : Type 0} (turn : S → Parser T (S ⊎ B)) (n at : ℕ) (some : at < n) (x : S) (c : Cursor T) where
   left : n - at ≡ suc (n - (at + 1))
@@ -51,6 +51,11 @@ pub refused : {T A B : Type 0} (tree : A → B) (outcome : Outcome T B) (x : Par
     → (r : Result A ParseError) → IsErr r × IsErrAnd r (λ e. e ≡ x) → ReadsAs tree outcome r new
 refused tree outcome x new h (Ok a) i = absurd (cc)
 refused tree outcome x new h (Err e) i = λ some. h (λ z. some (i.1 ∙ z))
+
+-- the exit of a `?` behind a step that takes no memory
+pub stopped : {T A B : Type 0} (tree : A → B) (outcome : Outcome T B) (new : Cursor T) → outcome ≡ Err new.far → (r : Result A ParseError) → IsErr r → ReadsAs tree outcome r new
+stopped tree outcome new h (Ok a) i = absurd (cc)
+stopped tree outcome new h (Err e) i = λ some. h
 
 -- a turn of the code is one of the parser's
 module _ {T S B X Y : Type 0} (state : S → X) (outcome : B → Y) (t : X → Parser T (X ⊎ Y)) (n at : ℕ) (some : at < n) (x : X) (c c' : Cursor T)

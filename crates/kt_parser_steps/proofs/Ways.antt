@@ -1,17 +1,21 @@
 -- The steps that productions are made of, one equation for each way through their code.
 use Rattle.std.proofs.Common.{◌≡◌, ℕ, zero, suc, ◌<◌, ◌≤◌, Bool, true, List, [], ◌∷◌, length, take, drop, get_or, ◌-◌, Some, None, Result, Ok, Err, refl, ap, sym, subst, ◌∙◌, arith}
 use Rattle.std.proofs.lemmas.List.{take_all}
-use Rattle.kt_grammar.specs.declared.error.ParseError.{ParseError}
-use Rattle.kt_grammar.specs.Parsers.{Cursor, Parser, Outcome, cursor, further, first, token, ahead, attempt, ◌>>◌, some_levels}
-use Rattle.kt_grammar.specs.Cursors.{Turned}
-use Rattle.kt_grammar.proofs.Turns.{token_taken, token_missed}
-use Rattle.kt_parser_steps.specs.Steps.{ReadsAs}
+use Rattle.kt_parser_steps.specs.declared.error.ParseError.{ParseError}
+use Rattle.kt_grammar_parsers.specs.Parsers.{Cursor, Parser, Outcome, cursor, further, first, token, ahead, attempt, ◌>>◌, some_levels}
+use Rattle.kt_parser_steps.specs.Cursors.{Turned}
+use Rattle.kt_parser_steps.proofs.Turns.{token_taken, token_missed}
+use Rattle.kt_parser_steps.specs.Steps.{Expects, ReadsAs}
+use Rattle.kt_parser_steps.specs.declared.refused.Refused.{Refused}
 use Rattle.kt_tree.specs.declared.tokens.Token.{Token}
 use Rattle.kt_grammar.specs.Terminals.{Meaning}
 use Rattle.kt_grammar.specs.Readers.{meant}
 
 pub reads_from : {T A B : Type 0} (tree : A → B) (o o' : Outcome T B) → o ≡ o' → (r : Result A ParseError) (new : Cursor T) → ReadsAs tree o' r new → ReadsAs tree o r new
 reads_from tree o o' e r new h = subst (λ (z : Outcome _ _). ReadsAs tree z r new) (sym e) h
+
+pub expects_from : {T A B : Type 0} (view : A → B) (o o' : Outcome T B) → o ≡ o' → (r : Result A Refused) (new : Cursor T) → Expects view o' r new → Expects view o r new
+expects_from view o o' e r new h = subst (λ (z : Outcome _ _). Expects view z r new) (sym e) h
 
 -- what a call gave, where a closure gives it on
 pub reads_on : {T A B : Type 0} (tree : A → B) (o : Outcome T B) (x r : Result A ParseError) (c new : Cursor T) → ReadsAs tree o x c → (r ≡ x) × (new ≡ c) → ReadsAs tree o r new
@@ -47,9 +51,9 @@ past_taken test q c c1 t h = rw (token_taken test c t c1 h) refl
 pub past_missed : {T B : Type 0} (test : T → Bool) (q : Parser T B) (c c1 : Cursor T) → Turned test c None c1 → (token test >> q) c ≡ Err c1.far
 past_missed test q c c1 h = rw (token_missed test c c1 h) refl
 
-pub has_room : (n : ℕ) → 0 < n → some_levels n ≡ true
-has_room zero h = absurd (omega arith)
-has_room (suc n) h = refl
+pub levels_left : (n : ℕ) → 0 < n → some_levels n ≡ true
+levels_left zero h = absurd (omega arith)
+levels_left (suc n) h = refl
 
 -- ---- what the next token stands for
 

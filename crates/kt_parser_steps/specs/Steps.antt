@@ -6,11 +6,12 @@ use Rattle.kt_tree.specs.declared.tokens.Token.{Token}
 use Rattle.kt_tree.specs.Tokens.{is_new_line, is_sign}
 use Rattle.kt_base.specs.declared.refusals.Pos.{Pos}
 use Rattle.kt_tree.specs.declared.tokens.Sign.TheVariants as sign
-use Rattle.kt_grammar.specs.declared.error.ParseError.{ParseError}
-use Rattle.kt_grammar.specs.declared.error.ParseError.TheVariants as parse_error
-use Rattle.kt_grammar.specs.Parsers.{Cursor, Outcome, Parser, ◌>>=◌, ◌>>◌, pure, token, skip}
+use Rattle.kt_parser_steps.specs.declared.error.ParseError.{ParseError}
+use Rattle.kt_parser_steps.specs.declared.error.ParseError.TheVariants as parse_error
+use Rattle.kt_grammar_parsers.specs.Parsers.{Cursor, Outcome, Parser, ◌>>=◌, ◌>>◌, pure, token, skip}
 use Rattle.kt_tree.specs.declared.bodies.BinaryOperator.{BinaryOperator}
 use Rattle.kt_grammar.specs.Terminals.{Meaning, disjunction_of, conjunction_of, equality_of, comparison_of, elvis_of, infix_of, additive_of, multiplicative_of}
+use Rattle.kt_parser_steps.specs.declared.refused.Refused.{Refused}
 use Rattle.kt_parser_steps.specs.declared.loops.Turn.{Turn}
 use Rattle.kt_parser_steps.specs.declared.loops.Turn.TheVariants as turn
 use Rattle.kt_parser_steps.specs.declared.lists.Lead.{Lead}
@@ -23,6 +24,11 @@ use Rattle.kt_parser_steps.specs.declared.meanings.BinaryLevel.TheVariants as le
 abbrev pub ReadsAs : {T A B : Type 0} → (A → B) → Outcome T B → Result A ParseError → Cursor T → Type 0
 ReadsAs tree outcome (Ok a) new = outcome ≡ Ok (tree a, new)
 ReadsAs tree outcome (Err e) new = e ≢ parse_error.NoMemory → outcome ≡ Err new.far
+
+-- A step that takes no memory gives what the parser gives, and fails just where the parser does.
+abbrev pub Expects : {T A B : Type 0} → (A → B) → Outcome T B → Result A Refused → Cursor T → Type 0
+Expects view outcome (Ok a) new = outcome ≡ Ok (view a, new)
+Expects view outcome (Err e) new = outcome ≡ Err new.far
 
 -- A look ahead succeeds where the parser does, else the cursor goes back and keeps the place.
 abbrev pub Tries : {T : Type 0} → Outcome T (Unit {0}) → Cursor T → Bool → Cursor T → Type 0
@@ -39,6 +45,12 @@ abbrev pub EachReads : {T A B : Type 0} → (A → B) → Parser T B
     → (MutBor (Cursor T) → Result A ParseError → MutBor (Cursor T) → Type 0) → Type 0
 EachReads {T} {A} tree p post = (old new : MutBor (Cursor T)) (r : Result A ParseError) → post old r new
     → ReadsAs tree (p old.now) r new.now
+
+-- each call of a function value takes what the parser takes, without memory
+abbrev pub EachExpects : {T A B : Type 0} → (A → B) → Parser T B
+    → (MutBor (Cursor T) → Result A Refused → MutBor (Cursor T) → Type 0) → Type 0
+EachExpects {T} {A} view p post = (old new : MutBor (Cursor T)) (r : Result A Refused) → post old r new
+    → Expects view (p old.now) r new.now
 
 -- each call of a function value tells what a token stands for
 abbrev pub EachMeans : {A : Type 0} → Meaning A → (Bor Token → Option A → Type 0) → Type 0

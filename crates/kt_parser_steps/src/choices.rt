@@ -1,17 +1,21 @@
 //! Parts that are taken where they are allowed and stand.
 
-ghost use Rattle.kt_grammar.specs.Parsers.{Parser};
-ghost use Rattle.kt_grammar.specs.Terminals.{is_of};
-ghost use Rattle.kt_parser_steps.specs.Chosen.{FindsIf, TurnedIf};
-ghost use Rattle.kt_parser_steps.specs.Steps.{EachReads};
+ghost use Rattle.kt_grammar_parsers.specs.Parsers.{Parser, ahead};
+ghost use Rattle.kt_parser_steps.specs.Classes.{is_of};
+ghost use Rattle.kt_parser_steps.specs.Chosen.{FindsIf, TriesIf, TurnedIf};
+ghost use Rattle.kt_parser_steps.specs.Steps.{EachExpects, EachReads};
 ghost use Rattle.kt_tree.specs.declared.tokens.Token.{Token};
 ghost use Rattle.kt_tree.specs.Tokens.{is_keyword, is_sign, is_soft_keyword};
 ghost use Rattle.std.specs.Option.{option_copied};
 ghost use Rattle.std.specs.Prelude.{IfOk};
 
+use crate::classes::TokenClass;
+use crate::error::ParseError;
 use crate::node::Node;
+use crate::refused::Refused;
+use crate::steps::class_ahead;
+use crate::tokens::Tokens;
 use kt_base::NoMemory;
-use kt_grammar::{ParseError, TokenClass, Tokens};
 use kt_tree::{Keyword, Sign, SoftKeyword, Token};
 
 /// Takes the next token where this sign is allowed, and is it.
@@ -59,6 +63,40 @@ pub fn class_if<'a>(allowed: bool, tokens: &mut Tokens<'a>, class: TokenClass) -
         tokens.take_class(class)
     } else {
         None
+    }
+}
+
+/// Whether the next token is of this class, where that is asked. It is examined then, and not taken.
+pub fn class_ahead_if(asked: bool, tokens: &mut Tokens<'_>, class: TokenClass) -> bool
+    ensures { TriesIf asked (ahead (is_of class)) tokens.old result tokens.new }
+{
+    if asked {
+        class_ahead(tokens, class)
+    } else {
+        false
+    }
+}
+
+/// Takes a part that needs no memory, where it is allowed and stands. Else the cursor goes back.
+pub fn part_if<'a, A: Node + Drop, F: Fn(&mut Tokens<'a>) -> Result<A, Refused>>(
+    allowed: bool,
+    tokens: &mut Tokens<'a>,
+    part: &F,
+) -> Option<A>
+    requires { F.IsAlwaysCallable part.now }
+    ensures { (p : Parser Token A.Tree) → EachExpects A.tree p (F.post part.now)
+        → FindsIf allowed A.tree p tokens.old result tokens.new }
+{
+    if !allowed {
+        return None;
+    }
+    let place = tokens.rest();
+    match part(tokens) {
+        Ok(found) => Some(found),
+        Err(Refused) => {
+            tokens.go_to(place);
+            None
+        }
     }
 }
 

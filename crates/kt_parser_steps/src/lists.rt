@@ -1,20 +1,24 @@
 //! Lists of items of any kind.
 
-ghost use Rattle.kt_grammar.specs.Parsers as parsers;
-ghost use Rattle.kt_grammar.specs.Parsers.{Parser};
+ghost use Rattle.kt_grammar_parsers.specs.Parsers as parsers;
+ghost use Rattle.kt_grammar_parsers.specs.Parsers.{Parser};
 ghost use Rattle.kt_grammar.specs.Readers as readers;
-ghost use Rattle.kt_grammar.specs.Terminals.{is_of, is_separator};
-ghost use Rattle.kt_parser_steps.specs.Steps.{EachReads, Finds, ReadsAs, ended, given, lead_of, led_comma, place_of, turn_tree};
+ghost use Rattle.kt_grammar.specs.Terminals.{is_separator};
+ghost use Rattle.kt_parser_steps.specs.Classes.{is_of};
+ghost use Rattle.kt_parser_steps.specs.Steps.{EachReads, Expects, Finds, ReadsAs, ended, given, lead_of, led_comma, place_of, turn_tree};
 ghost use Rattle.kt_tree.specs.declared.tokens.Sign.TheVariants as sign;
 ghost use Rattle.kt_tree.specs.declared.tokens.Token.{Token};
 ghost use Rattle.kt_tree.specs.Tokens.{is_new_line, is_sign};
 ghost use Rattle.std.specs.Prelude.{◌≡◌, map, Ok};
 
+use crate::classes::TokenClass;
+use crate::error::ParseError;
 use crate::loops::{Turn, repeat};
 use crate::node::Node;
+use crate::refused::Refused;
 use crate::steps::{class_ahead, expect};
+use crate::tokens::Tokens;
 use kt_base::Pos;
-use kt_grammar::{ParseError, TokenClass, Tokens};
 use kt_tree::{Sign, Token};
 use sqlite_items::Items;
 use std::alloc::Global;
@@ -162,8 +166,8 @@ pub fn several<T: Node + Drop, F: Fn(&mut Tokens<'_>) -> Result<T, ParseError>>(
 
 /// Separators, at least one where the closing token doesn't come.
 #[tactic(auto, using(crate::proofs::SeparatedItems::gap_taken, crate::proofs::SeparatedItems::gap_closed, crate::proofs::SeparatedItems::gap_missed))]
-fn gap(tokens: &mut Tokens<'_>, close: TokenClass) -> Result<(), ParseError>
-    ensures { ReadsAs (λ u. u) (parsers.gap is_separator (is_of close) tokens.old) result tokens.new }
+fn gap(tokens: &mut Tokens<'_>, close: TokenClass) -> Result<(), Refused>
+    ensures { Expects (λ u. u) (parsers.gap is_separator (is_of close) tokens.old) result tokens.new }
 {
     match tokens.take_class(TokenClass::Separator) {
         Some(_) => {
@@ -174,7 +178,7 @@ fn gap(tokens: &mut Tokens<'_>, close: TokenClass) -> Result<(), ParseError>
             if class_ahead(tokens, close) {
                 Ok(())
             } else {
-                Err(ParseError::Refused)
+                Err(Refused)
             }
         }
     }

@@ -1,13 +1,14 @@
 //! The loop of which lists and chains are made.
 
-ghost use Rattle.kt_grammar.specs.Parsers as parsers;
-ghost use Rattle.kt_grammar.specs.Parsers.{Parser};
+ghost use Rattle.kt_grammar_parsers.specs.Parsers as parsers;
+ghost use Rattle.kt_grammar_parsers.specs.Parsers.{Parser};
 ghost use Rattle.kt_parser_steps.specs.Steps.{EachTurns, ReadsAs};
 ghost use Rattle.kt_tree.specs.declared.tokens.Token.{Token};
 ghost use Rattle.std.specs.Prelude.{◌⊎◌};
 
+use crate::error::ParseError;
 use crate::node::Node;
-use kt_grammar::{ParseError, Tokens};
+use crate::tokens::Tokens;
 
 /// What a turn of a loop gives.
 pub enum Turn<S, B> {

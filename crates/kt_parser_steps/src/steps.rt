@@ -1,39 +1,42 @@
 //! Steps that each production is made of.
 
-ghost use Rattle.kt_grammar.specs.Parsers as parsers;
-ghost use Rattle.kt_grammar.specs.Parsers.{cursor, further};
+ghost use Rattle.kt_grammar_parsers.specs.Parsers as parsers;
+ghost use Rattle.kt_grammar_parsers.specs.Parsers.{cursor, further};
 ghost use Rattle.kt_grammar.specs.Terminals as spec;
-ghost use Rattle.kt_grammar.specs.Terminals.{Meaning, is_of};
+ghost use Rattle.kt_grammar.specs.Terminals.{Meaning};
+ghost use Rattle.kt_parser_steps.specs.Classes.{is_of};
 ghost use Rattle.kt_grammar.specs.Readers as readers;
 ghost use Rattle.kt_tree.specs.Tokens.{is_identifier, is_keyword, is_sign, is_soft_keyword};
-ghost use Rattle.kt_parser_steps.specs.Steps.{EachMeans, Finds, ReadsAs, Tries};
+ghost use Rattle.kt_parser_steps.specs.Steps.{EachMeans, Expects, Finds, Tries};
 ghost use Rattle.std.specs.Prelude.{◌≡◌, IfOk};
 
+use crate::classes::TokenClass;
 use crate::meanings::text_part;
+use crate::refused::Refused;
+use crate::tokens::Tokens;
 use kt_base::{Name, NoMemory};
-use kt_grammar::{ParseError, TokenClass, Tokens};
 use kt_tree::{Keyword, Sign, SoftKeyword, TextPart, Token, TokenKind};
 use std::alloc::Global;
 
 /// The next token, which is to be this sign.
-#[tactic(auto, using(kt_grammar::proofs::Turns::token_taken, kt_grammar::proofs::Turns::token_missed))]
-pub fn expect<'a>(tokens: &mut Tokens<'a>, sign: Sign) -> Result<&'a Token, ParseError>
-    ensures { ReadsAs (λ token. token.now) (readers.expect sign tokens.old) result tokens.new }
+#[tactic(auto, using(crate::proofs::Turns::token_taken, crate::proofs::Turns::token_missed))]
+pub fn expect<'a>(tokens: &mut Tokens<'a>, sign: Sign) -> Result<&'a Token, Refused>
+    ensures { Expects (λ token. token.now) (readers.expect sign tokens.old) result tokens.new }
 {
     match tokens.take_sign(sign) {
         Some(token) => Ok(token),
-        None => Err(ParseError::Refused),
+        None => Err(Refused),
     }
 }
 
 /// The next token, which is to be an identifier.
-#[tactic(auto, using(kt_grammar::proofs::Turns::token_taken, kt_grammar::proofs::Turns::token_missed))]
-pub fn expect_identifier<'a>(tokens: &mut Tokens<'a>) -> Result<&'a Token, ParseError>
-    ensures { ReadsAs (λ token. token.now) (parsers.token is_identifier tokens.old) result tokens.new }
+#[tactic(auto, using(crate::proofs::Turns::token_taken, crate::proofs::Turns::token_missed))]
+pub fn expect_identifier<'a>(tokens: &mut Tokens<'a>) -> Result<&'a Token, Refused>
+    ensures { Expects (λ token. token.now) (parsers.token is_identifier tokens.old) result tokens.new }
 {
     match tokens.take_identifier() {
         Some(token) => Ok(token),
-        None => Err(ParseError::Refused),
+        None => Err(Refused),
     }
 }
 
@@ -137,29 +140,26 @@ pub fn meant_text<'a>(tokens: &mut Tokens<'a>) -> Result<Option<(&'a Token, Text
 }
 
 /// The next token, which is to be this keyword.
-#[tactic(auto, using(kt_grammar::proofs::Turns::token_taken, kt_grammar::proofs::Turns::token_missed))]
-pub fn expect_keyword<'a>(
-    tokens: &mut Tokens<'a>,
-    keyword: Keyword,
-) -> Result<&'a Token, ParseError>
-    ensures { ReadsAs (λ token. token.now) (parsers.token (is_keyword keyword) tokens.old) result tokens.new }
+#[tactic(auto, using(crate::proofs::Turns::token_taken, crate::proofs::Turns::token_missed))]
+pub fn expect_keyword<'a>(tokens: &mut Tokens<'a>, keyword: Keyword) -> Result<&'a Token, Refused>
+    ensures { Expects (λ token. token.now) (parsers.token (is_keyword keyword) tokens.old) result tokens.new }
 {
     match tokens.take_keyword(keyword) {
         Some(token) => Ok(token),
-        None => Err(ParseError::Refused),
+        None => Err(Refused),
     }
 }
 
 /// The next token, which is to be spelled as this soft keyword.
-#[tactic(auto, using(kt_grammar::proofs::Turns::token_taken, kt_grammar::proofs::Turns::token_missed))]
+#[tactic(auto, using(crate::proofs::Turns::token_taken, crate::proofs::Turns::token_missed))]
 pub fn expect_soft_keyword<'a>(
     tokens: &mut Tokens<'a>,
     word: SoftKeyword,
-) -> Result<&'a Token, ParseError>
-    ensures { ReadsAs (λ token. token.now) (parsers.token (is_soft_keyword word) tokens.old) result tokens.new }
+) -> Result<&'a Token, Refused>
+    ensures { Expects (λ token. token.now) (parsers.token (is_soft_keyword word) tokens.old) result tokens.new }
 {
     match tokens.take_soft_keyword(word) {
         Some(token) => Ok(token),
-        None => Err(ParseError::Refused),
+        None => Err(Refused),
     }
 }

@@ -1,9 +1,9 @@
 //! Tokens that stand for a value, taken where they are allowed.
 
 ghost use Rattle.kt_grammar.specs.Readers as readers;
-ghost use Rattle.kt_grammar.specs.Terminals.{Meaning, assignment_of, cast_of, literal_of, member_of, prefix_of, range_of, step_of, type_check_of, variable_of};
+ghost use Rattle.kt_grammar.specs.Terminals.{Meaning, assignment_of, cast_of, literal_of, prefix_of, range_of, step_of, type_check_of, variable_of};
 ghost use Rattle.kt_parser_steps.specs.Chosen.{FindsIf, found_token};
-ghost use Rattle.kt_parser_steps.specs.Operators.{operator_of};
+ghost use Rattle.kt_parser_steps.specs.Operators.{member_sign, operator_of};
 ghost use Rattle.kt_parser_steps.specs.Steps.{EachMeans};
 
 use crate::meanings::{
@@ -11,7 +11,7 @@ use crate::meanings::{
     range_operator, step_operator, type_check, variable,
 };
 use crate::steps::meant;
-use kt_grammar::Tokens;
+use crate::tokens::Tokens;
 use kt_tree::{
     AssignmentOperator, BinaryOperator, Literal, PrefixOperator, RangeOperator, StepOperator, Token,
 };
@@ -80,11 +80,22 @@ pub fn take_cast<'a>(allowed: bool, tokens: &mut Tokens<'a>) -> Option<(&'a Toke
     meant_if(allowed, tokens, &|token: &Token| cast(token))
 }
 
-/// Takes `.`, or `?.`, which is told as true.
+/// Takes `.`, or `?.`, which is told as true, also behind line ends. Where none comes, the cursor goes back.
 pub fn take_member<'a>(allowed: bool, tokens: &mut Tokens<'a>) -> Option<(&'a Token, bool)>
-    ensures { FindsIf allowed found_token (readers.meant member_of) tokens.old result tokens.new }
+    ensures { FindsIf allowed found_token member_sign tokens.old result tokens.new }
 {
-    meant_if(allowed, tokens, &|token: &Token| member(token))
+    if !allowed {
+        return None;
+    }
+    let place = tokens.rest();
+    tokens.skip_lines();
+    match meant(tokens, &|token: &Token| member(token)) {
+        Some(found) => Some(found),
+        None => {
+            tokens.go_to(place);
+            None
+        }
+    }
 }
 
 /// Takes `val`, or `var`, which is told as true.

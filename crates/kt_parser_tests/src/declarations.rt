@@ -1,8 +1,8 @@
 //! Lists of tokens: files with how many declarations they have, and refusals with their place.
 
 use kt_base::{Name, Pos};
-use kt_grammar::{ParseError, Tokens};
 use kt_parser_declarations::read_file;
+use kt_parser_steps::{ParseError, Tokens};
 use kt_tree::{Keyword, Number, Sign, Token, TokenKind};
 use std::alloc::Global;
 use std::test::Fail;

@@ -1,8 +1,9 @@
 //! Lists of tokens: expressions and statements with how many tokens are left, and refusals with their place.
 
 use kt_base::{Name, Pos};
-use kt_grammar::{Context, ParseError, Tokens};
+use kt_grammar::Context;
 use kt_parser_statements::{Precedence, read_expression, read_statement};
+use kt_parser_steps::{ParseError, Tokens};
 use kt_tree::{Keyword, Number, Sign, Token, TokenKind};
 use std::alloc::Global;
 use std::test::Fail;
@@ -23,6 +24,7 @@ fn kind_of(alloc: Global, letter: u8) -> Result<TokenKind, Fail> {
         b'L' => TokenKind::Keyword(Keyword::While),
         b'R' => TokenKind::Keyword(Keyword::Return),
         b'T' => TokenKind::Keyword(Keyword::Try),
+        b'X' => TokenKind::Keyword(Keyword::Throw),
         b'"' => TokenKind::OpenQuote,
         b'\'' => TokenKind::CloseQuote,
         b'$' => TokenKind::OpenTemplate,
@@ -64,6 +66,9 @@ enum Reading {
 
 /// Letters, and what their tokens read as.
 type Row = (&'static str, Reading);
+
+/// Letters before parentheses, how many of them, what stands in them and behind them, and what their tokens read as.
+type Nested = (&'static str, usize, &'static str, &'static str, Reading);
 
 const OUTSIDE: Context = Context {
     in_loop: false,
@@ -117,6 +122,22 @@ fn expressions() -> &'static [Row] {
         ("(a", Reading::Refused(2)),
         ("B", Reading::Refused(0)),
         ("T{a}b", Reading::Refused(4)),
+        ("R", Reading::Read(0)),
+        ("R()", Reading::Refused(2)),
+    ]
+}
+
+/// 200 levels, and 201: what follows is taken by its first token, also where it doesn't fit.
+fn nestings() -> &'static [Nested] {
+    &[
+        ("R", 198, "a", "", Reading::Read(0)),
+        ("R", 199, "a", "", Reading::Refused(199)),
+        ("I(a)b(", 197, "a", ")", Reading::Read(0)),
+        ("I(a)b(", 198, "a", ")", Reading::Refused(203)),
+        ("Xb[", 197, "a", "]", Reading::Read(0)),
+        ("Xb[", 198, "a", "]", Reading::Refused(200)),
+        ("", 196, "I(a)bEb{c}", "", Reading::Read(0)),
+        ("", 197, "I(a)bEb{c}", "", Reading::Refused(205)),
     ]
 }
 
@@ -127,6 +148,42 @@ fn statements() -> &'static [Row] {
         ("L(a){B}", Reading::Read(0)),
         ("{a}", Reading::Refused(0)),
     ]
+}
+
+fn push_letters(letters: &mut Vec<u8>, more: &[u8]) -> Result<(), Fail> {
+    for letter in more {
+        letters.push(*letter)?;
+    }
+    Ok(())
+}
+
+fn push_times(letters: &mut Vec<u8>, letter: u8, times: usize) -> Result<(), Fail> {
+    for _ in 0..times {
+        letters.push(letter)?;
+    }
+    Ok(())
+}
+
+fn nested_letters(alloc: Global, nested: &Nested) -> Result<Vec<u8>, Fail> {
+    let (before, depth, inner, behind, _) = *nested;
+    let mut letters = Vec::new(alloc);
+    push_letters(&mut letters, before.as_bytes())?;
+    push_times(&mut letters, b'(', depth)?;
+    push_letters(&mut letters, inner.as_bytes())?;
+    push_times(&mut letters, b')', depth)?;
+    push_letters(&mut letters, behind.as_bytes())?;
+    Ok(letters)
+}
+
+/// The first nesting that doesn't read as its row says, by its number.
+fn wrong_nesting(alloc: Global) -> Result<Option<usize>, Fail> {
+    for (number, row) in nestings().iter().enumerate() {
+        let letters = nested_letters(alloc, row)?;
+        if expression(alloc, letters.as_slice())? != row.4 {
+            return Ok(Some(number));
+        }
+    }
+    Ok(None)
 }
 
 /// The first expression that doesn't read as its row says, by its number.
@@ -160,5 +217,11 @@ fn expressions_read_as_their_rows(rt: HostRuntime) -> Result<(), Fail> {
 #[test]
 fn statements_read_as_their_rows(rt: HostRuntime) -> Result<(), Fail> {
     assert_eq!(rt; wrong_statement(rt.alloc())?, None);
+    Ok(())
+}
+
+#[test]
+fn nestings_read_as_their_rows(rt: HostRuntime) -> Result<(), Fail> {
+    assert_eq!(rt; wrong_nesting(rt.alloc())?, None);
     Ok(())
 }

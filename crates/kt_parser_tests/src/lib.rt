@@ -4,6 +4,8 @@
 #![tactic(auto)]
 
 #[cfg(test)]
+mod cursor;
+#[cfg(test)]
 mod declarations;
 #[cfg(test)]
 mod expressions;

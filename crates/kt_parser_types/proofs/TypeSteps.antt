@@ -5,11 +5,11 @@ use Rattle.kt_tree.specs.declared.tokens.Sign.TheVariants as sign
 use Rattle.kt_tree.specs.declared.types.TypeReference.{TypeReference}
 use Rattle.kt_tree.specs.Tokens.{is_sign}
 use Rattle.kt_tree.specs.Types.{TypeTree, named, nullable, parenthesized, types_of, type_tree}
-use Rattle.kt_grammar.specs.declared.error.ParseError.{ParseError}
-use Rattle.kt_grammar.specs.Parsers.{Cursor, Parser, Outcome, cursor, further, first, token, ahead, attempt, on, ◌>>◌, some_levels}
-use Rattle.kt_grammar.specs.Cursors.{Turned}
+use Rattle.kt_parser_steps.specs.declared.error.ParseError.{ParseError}
+use Rattle.kt_grammar_parsers.specs.Parsers.{Cursor, Parser, Outcome, cursor, further, first, token, ahead, attempt, on, ◌>>◌, some_levels}
+use Rattle.kt_parser_steps.specs.Cursors.{Turned}
 use Rattle.kt_grammar.specs.Readers.{type_parser, type_over, type_arguments, suspend_type, behind_parenthesis, behind_types, result_type, maybe_nullable}
-use Rattle.kt_grammar.proofs.Turns.{on_taken, on_missed, token_taken, token_missed}
+use Rattle.kt_parser_steps.proofs.Turns.{on_taken, on_missed, token_taken, token_missed}
 use Rattle.kt_parser_steps.specs.Steps.{ReadsAs}
 use Rattle.kt_parser_steps.proofs.Ways.{attempt_ok, attempt_err, past_taken, past_missed}
 use Rattle.kt_parser_types.specs.Below.{behind_name, named_or_nullable, suspend_ahead, only_one}

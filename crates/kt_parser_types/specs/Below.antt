@@ -8,8 +8,8 @@ use Rattle.kt_tree.specs.declared.tokens.SoftKeyword.TheVariants as soft
 use Rattle.kt_tree.specs.declared.types.TypeReference.{TypeReference}
 use Rattle.kt_tree.specs.Tokens.{is_sign, is_soft_keyword}
 use Rattle.kt_tree.specs.Types.{TypeTree, named, types_of, type_tree}
-use Rattle.kt_grammar.specs.declared.error.ParseError.{ParseError}
-use Rattle.kt_grammar.specs.Parsers.{Cursor, Parser, ◌>>=◌, ◌>>◌, pure, token, ahead, attempt_if}
+use Rattle.kt_parser_steps.specs.declared.error.ParseError.{ParseError}
+use Rattle.kt_grammar_parsers.specs.Parsers.{Cursor, Parser, ◌>>=◌, ◌>>◌, pure, token, ahead, attempt_if}
 use Rattle.kt_grammar.specs.Readers.{type_parser, type_arguments, named_type, maybe_nullable}
 use Rattle.kt_parser_steps.specs.Steps.{ReadsAs}
 

@@ -2,7 +2,7 @@
 
 use crate::types::read_type;
 use kt_base::{Name, Pos};
-use kt_grammar::{ParseError, Tokens};
+use kt_parser_steps::{ParseError, Tokens};
 use kt_tree::{Sign, Token, TokenKind, TypeReference};
 use std::alloc::Global;
 use std::test::Fail;

@@ -5,7 +5,7 @@
 
 ghost use Rattle.kt_grammar.specs.Readers as readers;
 ghost use Rattle.kt_grammar.specs.Readers.{type_parser};
-ghost use Rattle.kt_grammar.specs.Parsers.{some_levels};
+ghost use Rattle.kt_grammar_parsers.specs.Parsers.{some_levels};
 ghost use Rattle.kt_tree.specs.Tokens.{is_sign};
 ghost use Rattle.kt_tree.specs.declared.tokens.Sign.TheVariants as sign;
 ghost use Rattle.kt_tree.specs.Types.{maybe_type, type_tree};
@@ -14,9 +14,9 @@ ghost use Rattle.kt_parser_types.specs.Below.{ReadsBelow, some_type, suspend_ahe
 ghost use Rattle.std.specs.Prelude.{◌≡◌, map};
 
 use kt_base::Name;
-use kt_grammar::{ParseError, Tokens};
 use kt_parser_steps::{
-    comma_list, expect, expect_identifier, maybe_comma_list, name_of, sign_ahead,
+    ParseError, Tokens, comma_list, expect, expect_identifier, maybe_comma_list, name_of,
+    sign_ahead,
 };
 use kt_tree::{Sign, SoftKeyword, TypeReference};
 use kt_tree_nodes::types::{function, named, nullable, parenthesized};

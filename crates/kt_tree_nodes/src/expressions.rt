@@ -37,6 +37,18 @@ pub(crate) fn maybe_boxed(
     }
 }
 
+/// The value in a box, beside what was made already. Without memory both are let go.
+pub(crate) fn boxed_beside<T: Drop>(
+    alloc: Global,
+    value: Expression,
+    made: T,
+) -> Result<(Boxed<Expression>, T), NoMemory>
+    ensures { IfOk result (λ both. (both.0 ≡ value) × (both.1 ≡ made)) }
+{
+    let boxed = Boxed::new(alloc, value)?;
+    Ok((boxed, made))
+}
+
 /// A number, a character, `'true'`, `'false'` or `'null'`
 pub fn literal(at: Pos, literal: Literal) -> Expression
     ensures { expression_tree result ≡ tree.literal at literal }
@@ -124,8 +136,8 @@ pub fn binary(
         (expression_tree right)) }
 {
     let at = place_of(&left);
-    let left = Boxed::new(alloc, left)?;
-    let right = Boxed::new(alloc, right)?;
+    let (left, right) = boxed_beside(alloc, left, right)?;
+    let (right, left) = boxed_beside(alloc, right, left)?;
     Ok(Expression {
         at,
         kind: ExpressionKind::Binary(operator, left, right),
@@ -208,8 +220,8 @@ pub fn index(alloc: Global, value: Expression, index: Expression) -> Result<Expr
         (expression_tree index)) }
 {
     let at = place_of(&value);
-    let value = Boxed::new(alloc, value)?;
-    let index = Boxed::new(alloc, index)?;
+    let (value, index) = boxed_beside(alloc, value, index)?;
+    let (index, value) = boxed_beside(alloc, index, value)?;
     Ok(Expression {
         at,
         kind: ExpressionKind::Index(value, index),

@@ -6,7 +6,7 @@ ghost use Rattle.kt_tree.specs.Bodies.{block_tree, body_tree, expression_tree, m
 ghost use Rattle.kt_tree.specs.Types.{maybe_type};
 ghost use Rattle.std.specs.Prelude.{◌≡◌, IfOk, option_map};
 
-use crate::expressions::{maybe_boxed, place_of};
+use crate::expressions::{boxed_beside, maybe_boxed, place_of};
 use kt_base::{Name, NoMemory, Pos};
 use kt_tree::{
     AssignmentOperator, Block, ControlStructureBody, Expression, RangeOperator, Statement,
@@ -47,8 +47,8 @@ pub fn assign(
         (expression_tree value)) }
 {
     let at = place_of(&target);
-    let target = Boxed::new(alloc, target)?;
-    let value = Boxed::new(alloc, value)?;
+    let (target, value) = boxed_beside(alloc, target, value)?;
+    let (value, target) = boxed_beside(alloc, value, target)?;
     Ok(Statement {
         at,
         kind: StatementKind::Assign(target, operator, value),
@@ -118,8 +118,8 @@ pub fn for_loop(
         (λ s. statement_tree s ≡ tree.for at name (expression_tree first) operator (expression_tree bound)
         (body_tree body)) }
 {
-    let first = Boxed::new(alloc, first)?;
-    let bound = Boxed::new(alloc, bound)?;
+    let (first, (bound, body)) = boxed_beside(alloc, first, (bound, body))?;
+    let (bound, (first, body)) = boxed_beside(alloc, bound, (first, body))?;
     Ok(Statement {
         at,
         kind: StatementKind::For(name, first, operator, bound, body),

@@ -1,9 +1,9 @@
 -- Types read under arguments.
 use Rattle.std.proofs.Common.{ℕ, suc, zero, Bool, true, false, ◌≡◌, refl, ◌<◌, ◌≤◌, ◌∙◌, sym, ap, List, [], ◌∷◌, length, map, Some, None, arith}
-use Rattle.std.specs.Prelude.{◌||◌, slice_get, IsTrue, ◌↔◌}
+use Rattle.std.specs.Prelude.{◌||◌, slice_get}
 use Rattle.kt_types_tree.specs.declared.types.KtType.{KtType}
-use Rattle.kt_types_tree.specs.Types.{TypeForm, TypeForms, ShapeForm, typed, nothing, any, of, parameter, forms_end, form_then, forms_of, type_form, or_null, argument_at, substituted, substituted_all, substituted_shape}
-use Rattle.kt_types_climbing.specs.Reading.{read, read_all, IsBare}
+use Rattle.kt_types_tree.specs.Types.{TypeForm, TypeForms, ShapeForm, typed, parameter, forms_end, form_then, forms_of, type_form, or_null, argument_at, substituted_shape}
+use Rattle.kt_types_climbing.specs.Reading.{read, read_all}
 
 pub or_or : (k n m : Bool) → ((k || n) || m) ≡ (k || (n || m))
 or_or true n m = refl

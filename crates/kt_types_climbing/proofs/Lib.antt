@@ -1,2 +1,5 @@
 pub mod Environments
 pub mod Weights
+pub mod Closed
+pub mod Steps
+pub mod OnlyWays

@@ -1,2 +1,4 @@
 pub mod Reading
 pub mod Weights
+pub mod Nodes
+pub mod OnlyWays

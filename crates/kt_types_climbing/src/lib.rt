@@ -3,5 +3,8 @@
 //! No memory is taken: what is still ahead, what was met and the arguments of type parameters stand on the stack.
 #![tactic(auto)]
 
+pub mod climbing;
 pub mod environment;
 pub mod reading;
+pub mod straight;
+pub mod walk;

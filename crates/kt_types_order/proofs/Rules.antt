@@ -28,13 +28,13 @@ allows_both false true true p q = tt
 allows_both false true false p q = absurd q
 allows_both false false k p q = q
 
-allows_or : (n m k : Bool) → Allows n m → Allows (n || k) (m || k)
+pub allows_or : (n m k : Bool) → Allows n m → Allows (n || k) (m || k)
 allows_or true true k p = allows_same true
 allows_or true false k p = absurd p
 allows_or false true k p = allows_true k
 allows_or false false k p = allows_same k
 
-allows_left : (n k m : Bool) → Allows (n || k) m → Allows n m
+pub allows_left : (n k m : Bool) → Allows (n || k) m → Allows n m
 allows_left true k m p = p
 allows_left false k m p = allows_false m
 
@@ -53,7 +53,7 @@ module _ (h : HierarchyForm) where
   grows n _ m t (u_bounded {k = k} {s = s} p q) = allows_left n k m (grows (n || k) s m t q)
 
   -- without null it is below all that it is below with null
-  weaker : (n l : Bool) (s : ShapeForm) (m : Bool) (t : ShapeForm) → Allows l n → IsUnder h n s m t → IsUnder h l s m t
+  pub weaker : (n l : Bool) (s : ShapeForm) (m : Bool) (t : ShapeForm) → Allows l n → IsUnder h n s m t → IsUnder h l s m t
   weaker n l _ m t a (u_nothing p) = u_nothing (allows_both l n m a p)
   weaker n l s m _ a (u_same p) = u_same (allows_both l n m a p)
   weaker n l s m _ a (u_any p q) = u_any (allows_both l n m a p) q

@@ -1,4 +1,4 @@
-use Rattle.kt_grammar.proofs.FileLaws as laws
+use Rattle.kt_grammar.proofs.declarations.FileLaws as laws
 use Rattle.kt_grammar.proofs.laws.one_tree.Goals as goal
 
 -- src/laws.rt:48:1

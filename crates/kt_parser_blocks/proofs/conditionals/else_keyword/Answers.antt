@@ -1,8 +1,7 @@
-use Rattle.kt_parser_steps.proofs.Choosing.{on_reads, on_skips}
+use Rattle.std.proofs.Common.{◌∙◌}
+use Rattle.kt_parser_steps.proofs.Ways.{expects_from}
+use Rattle.kt_parser_blocks.proofs.Passing.{either_way, past_lines}
 use Rattle.kt_parser_blocks.proofs.conditionals.else_keyword.Goals as goal
 
-pub returns-in-Some : goal.returns-in-Some
-returns-in-Some c = on_reads _ _ _ _ _ _ _ _ _ c.in-Some.ensures c.behind_lines.ensures
-
-pub returns-in-None : goal.returns-in-None
-returns-in-None c = on_skips _ _ _ _ _ _ _ _ c.in-None.ensures c.behind_lines-in-None.ensures
+pub returns : goal.returns
+returns c = expects_from _ _ _ (either_way _ _ _ _ _ c.take_sign-semicolon.ensures ∙ past_lines _ _ _ c.skip_lines.ensures) _ _ c.expect_keyword.ensures

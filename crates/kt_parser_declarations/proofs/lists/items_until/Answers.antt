@@ -1,8 +1,8 @@
 use Rattle.kt_parser_steps.proofs.Turning.{refused}
 use Rattle.kt_parser_steps.proofs.SeparatedItems.{placed_err}
-use Rattle.kt_grammar.specs.Parsers.{pure}
+use Rattle.kt_grammar_parsers.specs.Parsers.{pure}
 use Rattle.kt_grammar.specs.Readers.{separated}
-use Rattle.kt_grammar.specs.Terminals.{is_of}
+use Rattle.kt_parser_steps.specs.Classes.{is_of}
 use Rattle.kt_parser_declarations.proofs.lists.items_until.Goals as goal
 
 pub returns-in_err-items : goal.returns-in_err-items

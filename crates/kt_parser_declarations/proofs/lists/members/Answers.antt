@@ -1,8 +1,7 @@
-use Rattle.std.proofs.Common.{true, refl}
+use Rattle.std.proofs.Common.{rules, true, refl}
 use denote.Ref.{Bor}
 use Rattle.kt_tree.specs.declared.tokens.Token.{Token}
 use Rattle.kt_parser_steps.proofs.Choosing.{attempt_reads, attempt_if_passes}
-use Rattle.kt_parser_steps.proofs.Optional.{found_is}
 use Rattle.kt_parser_declarations.specs.Rests.{open_brace}
 use Rattle.kt_parser_declarations.proofs.Items.{none_read}
 use Rattle.kt_parser_declarations.proofs.lists.members.Goals as goal
@@ -11,7 +10,7 @@ abbrev shown : Bor Token → Token
 shown token = token.now
 
 pub returns-in-Some : goal.returns-in-Some
-returns-in-Some g c p h = attempt_reads _ shown open_brace _ _ _ _ _ _ c.in-Some.field-0 (found_is true shown open_brace _ _ _ _ c.in_ok-brace.ensures c.in-Some.is) (c.items_until.ensures p h)
+returns-in-Some g c p h = attempt_reads _ shown open_brace _ _ _ _ _ _ c.in-Some.field-0 (c.in-Some.ensures open_brace (λ old new r e. search rules)) (c.items_until.ensures p h)
 
 pub returns-in-None : goal.returns-in-None
-returns-in-None g c p h = attempt_if_passes true true shown open_brace _ _ _ _ _ refl (found_is true shown open_brace _ _ _ _ c.in_ok-brace.ensures c.in-None.is) (none_read _ _ c.new.ensures _)
+returns-in-None g c p h = attempt_if_passes true true shown open_brace _ _ _ _ _ refl (c.in-None.ensures open_brace (λ old new r e. search rules)) (none_read _ _ c.new.ensures _)

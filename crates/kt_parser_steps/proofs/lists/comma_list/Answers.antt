@@ -1,6 +1,6 @@
 use Rattle.kt_tree.specs.declared.tokens.Sign.TheVariants as sign
 use Rattle.kt_tree.specs.Tokens.{is_sign}
-use Rattle.kt_grammar.specs.Parsers.{comma_turn}
+use Rattle.kt_grammar_parsers.specs.Parsers.{comma_turn}
 use Rattle.kt_parser_steps.proofs.Ways.{reads_on}
 use Rattle.kt_parser_steps.proofs.Turning.{first_listed}
 use Rattle.kt_parser_steps.proofs.lists.comma_list.Goals as goal

@@ -1,5 +1,6 @@
-use Rattle.kt_grammar.specs.Parsers.{item_turn}
-use Rattle.kt_grammar.specs.Terminals.{is_of, is_separator}
+use Rattle.kt_grammar_parsers.specs.Parsers.{item_turn}
+use Rattle.kt_grammar.specs.Terminals.{is_separator}
+use Rattle.kt_parser_steps.specs.Classes.{is_of}
 use Rattle.kt_parser_steps.specs.Steps.{given, ended, place_of}
 use Rattle.kt_parser_steps.proofs.Ways.{reads_on}
 use Rattle.kt_parser_steps.proofs.SeparatedItems.{items_listed}

@@ -1,6 +1,6 @@
 use Rattle.std.proofs.Common.{◌≡◌, ◌-◌, ◌⊎◌}
 use Rattle.kt_tree.specs.declared.tokens.Token.{Token}
-use Rattle.kt_grammar.specs.Parsers.{Parser, loop, repeat}
+use Rattle.kt_grammar_parsers.specs.Parsers.{Parser, loop, repeat}
 use Rattle.kt_parser_steps.specs.Steps.{EachTurns}
 use Rattle.kt_parser_steps.proofs.loops.repeat.Given as goal
 

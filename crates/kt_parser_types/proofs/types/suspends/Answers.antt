@@ -1,6 +1,6 @@
 use Rattle.std.proofs.Common.{Err, ◌∙◌, sym, ap}
 use Rattle.kt_tree.specs.declared.tokens.Token.{Token}
-use Rattle.kt_grammar.specs.Parsers.{Cursor}
+use Rattle.kt_grammar_parsers.specs.Parsers.{Cursor}
 use Rattle.kt_parser_steps.proofs.Ways.{past_taken, past_missed, missed_rest}
 use Rattle.kt_parser_types.proofs.types.suspends.Goals as goal
 

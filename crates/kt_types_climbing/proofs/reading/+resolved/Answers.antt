@@ -1,7 +1,6 @@
-use Rattle.std.proofs.Common.{sym, ap, ◌∙◌}
-use Rattle.kt_types_tree.specs.Types.{or_null, type_form}
+use Rattle.std.proofs.Common.{sym}
 use Rattle.kt_types_tree.proofs.Seen.{seen_type, seen_parameter}
-use Rattle.kt_types_climbing.specs.Reading.{layers, read}
+use Rattle.kt_types_climbing.specs.Reading.{layers}
 use Rattle.kt_types_climbing.proofs.Environments.{read_argument, read_no_argument, or_null_twice}
 use Rattle.kt_types_climbing.proofs.reading.+resolved.Goals as goal
 

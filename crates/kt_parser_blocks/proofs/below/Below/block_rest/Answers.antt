@@ -3,7 +3,7 @@ use Rattle.kt_tree.specs.declared.tokens.Sign.TheVariants as sign
 use Rattle.kt_tree.specs.Tokens.{is_sign}
 use Rattle.kt_tree.specs.Bodies as tree
 use Rattle.kt_tree.specs.Bodies.{statements_of}
-use Rattle.kt_grammar.specs.Parsers.{pure}
+use Rattle.kt_grammar_parsers.specs.Parsers.{pure}
 use Rattle.kt_grammar.specs.Readers.{separated}
 use Rattle.kt_grammar.specs.StatementParser.{parsers}
 use Rattle.kt_parser_steps.proofs.Turning.{refused}

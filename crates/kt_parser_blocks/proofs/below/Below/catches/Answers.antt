@@ -1,7 +1,7 @@
 use Rattle.std.proofs.Common.{rules, List, map, ap, sym}
 use Rattle.kt_tree.specs.declared.bodies.CatchBlock.{CatchBlock}
 use Rattle.kt_tree.specs.Bodies.{catch_tree}
-use Rattle.kt_grammar.specs.Parsers.{repeat}
+use Rattle.kt_grammar_parsers.specs.Parsers.{repeat}
 use Rattle.kt_parser_steps.proofs.Ways.{reads_from}
 use Rattle.kt_parser_blocks.specs.Rules.{catch_turn}
 use Rattle.kt_parser_blocks.proofs.below.Below.catches.Goals as goal

@@ -1,6 +1,6 @@
 use Rattle.std.proofs.Common.{Err, arith, sym, ap, ◌∙◌}
 use Rattle.kt_tree.specs.declared.tokens.Token.{Token}
-use Rattle.kt_grammar.specs.Parsers.{Cursor}
+use Rattle.kt_grammar_parsers.specs.Parsers.{Cursor}
 use Rattle.kt_parser_steps.proofs.Ways.{reads_from}
 use Rattle.kt_parser_blocks.proofs.Entries.{no_condition, condition_over}
 use Rattle.kt_parser_blocks.proofs.below.Below.inner_condition.Goals as goal

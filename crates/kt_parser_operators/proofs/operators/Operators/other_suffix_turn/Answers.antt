@@ -1,15 +1,16 @@
-use Rattle.std.proofs.Common.{rules, Ok, refl, ap, sym, inl}
+use Rattle.std.proofs.Common.{Bool, Ok, inl, ap, sym}
 use Rattle.kt_tree.specs.Bodies.{ExpressionTree, expression_tree}
-use Rattle.kt_parser_steps.proofs.Choosing.{attempt_if_gives, attempt_if_passes}
-use Rattle.kt_parser_operators.specs.Rules.{suffix}
-use Rattle.kt_parser_steps.proofs.Optional.{found_is}
-use Rattle.kt_parser_operators.proofs.Suffixed.{finds_suffix}
+use Rattle.kt_parser_steps.proofs.Choosing.{on_if_gives, on_if_reads, on_if_skips}
+use Rattle.kt_parser_steps.proofs.Ways.{reads_from}
+use Rattle.kt_parser_operators.specs.Rules.{member_turn}
 use Rattle.kt_parser_operators.proofs.operators.Operators.other_suffix_turn.Goals as goal
 
-pub returns-in_ok-with_suffix-in-Some : goal.returns-in_ok-with_suffix-in-Some
-returns-in_ok-with_suffix-in-Some g c =
-    attempt_if_gives _ _ _ _ _ _ _ _ _ _ c.has_room.ensures (finds_suffix _ _ (expression_tree c.args.value) _ _ _ _ (found_is _ _ _ _ _ _ _ (c.in_ok-suffix.ensures (suffix c.args.self.now.below.room c.args.at) (λ old new r e. search rules)) c.in-Some.is))
-    (ap (λ (z : ExpressionTree). Ok (inl z, c.attempt_if.new.tokens)) (sym c.in_ok-with_suffix-in-Some.ensures.whole))
+pub returns-in_ok-not_null-in-Some : goal.returns-in_ok-not_null-in-Some
+returns-in_ok-not_null-in-Some g c = on_if_gives _ _ _ _ _ _ _ _ _ c.has_more-allowed.ensures c.in-Some.ensures (ap (λ (z : ExpressionTree). Ok (inl z, c.sign_if.new.tokens)) (sym c.in_ok-not_null-in-Some.ensures))
 
-pub returns-in-None : goal.returns-in-None
-returns-in-None g c = attempt_if_passes _ _ _ _ _ _ _ _ _ c.has_room.ensures (finds_suffix _ _ (expression_tree c.args.value) _ _ _ _ (found_is _ _ _ _ _ _ _ (c.in_ok-suffix.ensures (suffix c.args.self.now.below.room c.args.at) (λ old new r e. search rules)) c.in-None.is)) refl
+pub returns-in-Some-sign_if : goal.returns-in-Some-sign_if
+returns-in-Some-sign_if g c = on_if_skips _ _ _ _ _ _ _ _ _ _ c.has_more-allowed.ensures c.in-None.ensures (on_if_reads _ _ _ _ _ _ _ _ _ _ _ c.has_more-allowed.ensures c.in-Some-sign_if.ensures c.element_rest.ensures)
+
+pub returns-in-None-sign_if : goal.returns-in-None-sign_if
+returns-in-None-sign_if g c = on_if_skips _ _ _ _ _ _ _ _ _ _ c.has_more-allowed.ensures c.in-None.ensures (on_if_skips _ _ _ _ _ _ _ _ _ _ c.has_more-allowed.ensures c.in-None-sign_if.ensures
+    (reads_from _ _ _ (ap (λ (b : Bool). member_turn b (expression_tree c.args.value) c.sign_if-in-None.new.tokens) (sym c.has_more-allowed.ensures)) _ _ c.member_turn.ensures))

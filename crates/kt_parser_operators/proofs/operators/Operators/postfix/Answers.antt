@@ -1,6 +1,6 @@
 use Rattle.std.proofs.Common.{rules}
 use Rattle.kt_tree.specs.Bodies.{expression_tree}
-use Rattle.kt_grammar.specs.Parsers.{repeat}
+use Rattle.kt_grammar_parsers.specs.Parsers.{repeat}
 use Rattle.kt_parser_steps.proofs.Choosing.{found_reads}
 use Rattle.kt_parser_primaries.specs.Rules.{primary}
 use Rattle.kt_parser_operators.specs.Rules.{suffix_turn}

@@ -1,15 +1,9 @@
-use Rattle.std.proofs.Common.{rules, List, Ok, refl, ap, sym}
-use Rattle.kt_tree.specs.Bodies.{ExpressionTree, expression_tree}
-use Rattle.kt_grammar.specs.StatementParser.{parsers}
-use Rattle.kt_parser_steps.proofs.Choosing.{attempt_if_gives, attempt_if_passes}
-use Rattle.kt_parser_steps.proofs.Turning.{pushed}
-use Rattle.kt_parser_steps.proofs.Optional.{found_is}
+use Rattle.std.proofs.Common.{refl}
+use Rattle.kt_parser_steps.proofs.Choosing.{next_reads, next_passes}
 use Rattle.kt_parser_operators.proofs.operators.Operators.with_lambda.Goals as goal
 
-pub returns-in_ok-push-in-Some : goal.returns-in_ok-push-in-Some
-returns-in_ok-push-in-Some g c =
-    attempt_if_gives _ _ _ _ _ _ _ _ _ _ c.is_deep.ensures (found_is _ _ _ _ _ _ _ (c.in_ok-lambda.ensures ((parsers c.args.self.now.below.room).lambda c.args.at) (λ old new r e. search rules)) c.in-Some.is)
-    (ap (λ (z : List ExpressionTree). Ok (z, c.attempt_if.new.tokens)) (sym (pushed expression_tree _ _ _ c.in_ok-push-in-Some.ensures.ok)))
+pub returns-then-sign_ahead : goal.returns-then-sign_ahead
+returns-then-sign_ahead g c = next_reads _ _ _ _ _ _ _ _ c.if-sign_ahead.ensures c.lambda_behind.ensures
 
-pub returns-in-None : goal.returns-in-None
-returns-in-None g c = attempt_if_passes _ _ _ _ _ _ _ _ _ c.is_deep.ensures (found_is _ _ _ _ _ _ _ (c.in_ok-lambda.ensures ((parsers c.args.self.now.below.room).lambda c.args.at) (λ old new r e. search rules)) c.in-None.is) refl
+pub returns-else-sign_ahead : goal.returns-else-sign_ahead
+returns-else-sign_ahead g c = next_passes _ _ _ _ _ _ c.if-sign_ahead.ensures refl

@@ -1,7 +1,7 @@
 use Rattle.std.proofs.Common.{ℕ, List, Ok, ap, sym, ◌∙◌}
 use Rattle.kt_tree.specs.Bodies as tree
 use Rattle.kt_tree.specs.Bodies.{PartTree}
-use Rattle.kt_grammar.specs.Parsers.{some_levels}
+use Rattle.kt_grammar_parsers.specs.Parsers.{some_levels}
 use Rattle.kt_parser_steps.proofs.Choosing.{on_if_reads, on_if_skips, on_if_gives, on_if_passes}
 use Rattle.kt_parser_blocks.proofs.Depth.{levels_are}
 use Rattle.kt_parser_primaries.proofs.primaries.Primaries.string_part.Goals as goal

@@ -1,0 +1,3 @@
+mod PlainFiles
+mod WithinBounds
+mod PlainHeaders

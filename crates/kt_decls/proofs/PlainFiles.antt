@@ -1,0 +1,64 @@
+-- A file of functions alone has no classes of its own, and so no bounds that a type could break.
+use Rattle.std.specs.Prelude.{ℕ, zero, suc, Bool, true, false, List, [], ◌∷◌, ◌++◌, ◌+◌, ◌≡◌, ◌&&◌, ◌||◌, Option, Some, None, not, nat_lt, map, length, slice_get, refl, if◌then◌else◌}
+use Rattle.std.specs.List.{flat_map}
+use Rattle.std.proofs.Common.{rules, ap, sym, ◌∙◌, subst, arith}
+use Rattle.kt_tree.specs.Types.{TypeTree}
+use Rattle.kt_tree.specs.Declarations.{DeclarationTree, function, class, interface, enum, constant, FunctionTree}
+use Rattle.kt_types_tree.specs.declared.types.TypeConstructor.{TypeConstructor}
+use Rattle.kt_types_tree.specs.declared.types.TypeConstructor.TheVariants as constructor
+use Rattle.kt_types_tree.specs.Types.{TypeForm, ShapeForm, TypeForms, typed, nothing, any, parameter, of, forms_end, form_then}
+use Rattle.kt_types_tree.specs.Hierarchy.{HeaderForm, HierarchyForm}
+use Rattle.kt_types_builtins.specs.declared.throwables.BuiltInThrowable.{BuiltInThrowable}
+use Rattle.kt_types_builtins.specs.Throwables.{throwables}
+use Rattle.kt_decls_types.specs.References.{resolved}
+use Rattle.kt_decls_table.specs.Functions.{Classes}
+use Rattle.kt_decls_rules.specs.Tables.{Row, class_entry, class_from, class_named, meant, scope_of, numbered, row_count, placed_from, placed, rows_of, rows, row_headers, throwable_row, hierarchy_of}
+use Rattle.kt_decls_rules.specs.Rules.{IsWithinBounds, IsShapeWithinBounds, AreWithinBounds, AreBelowBounds, IsBelowBound, bound_at, header_at}
+use Rattle.kt_decls.specs.Judging.{no_classes, ArePlain}
+
+no_entries : (ds : List DeclarationTree) → ArePlain ds → flat_map class_entry ds ≡ []
+no_entries [] plain = refl
+no_entries (function f ∷ ds) plain = no_entries ds plain.1
+no_entries (class c ∷ ds) plain = absurd plain.0
+no_entries (interface i ∷ ds) plain = absurd plain.0
+no_entries (enum e ∷ ds) plain = absurd plain.0
+no_entries (constant c ∷ ds) plain = absurd plain.0
+
+none_named : (ds : List DeclarationTree) → ArePlain ds → ◌≡◌ {A = Classes} (class_named ds) no_classes
+none_named ds plain = λ i x. class_from (length throwables) (no_entries ds plain i) x
+
+pub meant_plainly : (ds : List DeclarationTree) → ArePlain ds → (t : TypeTree) → meant ds [] t ≡ resolved no_classes [] t
+meant_plainly ds plain t = λ i. resolved (none_named ds plain i) [] t
+
+pub no_scope : (before : List DeclarationTree) (f : FunctionTree) → f.type_parameters ≡ [] → scope_of before (function f) ≡ []
+no_scope before f e = ap (numbered (row_count before)) e
+
+no_rows : (ds before rest : List DeclarationTree) → ArePlain rest → rows_of ds (placed_from before rest) ≡ []
+no_rows ds before [] plain = refl
+no_rows ds before (function f ∷ rest) plain = no_rows ds (before ++ function f ∷ []) rest plain.1
+no_rows ds before (class c ∷ rest) plain = absurd plain.0
+no_rows ds before (interface i ∷ rest) plain = absurd plain.0
+no_rows ds before (enum e ∷ rest) plain = absurd plain.0
+no_rows ds before (constant c ∷ rest) plain = absurd plain.0
+
+behind_nothing : (rs : List Row) → rs ++ [] ≡ rs
+behind_nothing [] = refl
+behind_nothing (r ∷ rs) = ap (λ rest. r ∷ rest) (behind_nothing rs)
+
+rows_plainly : (ds : List DeclarationTree) → ArePlain ds → rows ds ≡ map throwable_row throwables
+rows_plainly ds plain =
+    ap (λ rs. map throwable_row throwables ++ rs) (no_rows ds [] ds plain) ∙ behind_nothing (map throwable_row throwables)
+
+-- no class has type parameters
+abbrev pub HasNoParameters : HierarchyForm → Type 0
+HasNoParameters h = (row : ℕ) (c : HeaderForm) → slice_get h.classes row ≡ Some c → c.parameters ≡ 0
+
+none_at : (all : List Row) (k : ℕ) (ts : List BuiltInThrowable) (row : ℕ) (c : HeaderForm) → slice_get (row_headers all k (map throwable_row ts)) row ≡ Some c → c.parameters ≡ 0
+none_at all k [] zero c e = absurd cc
+none_at all k [] (suc row) c e = absurd cc
+none_at all k (t ∷ ts) zero c e = cc
+none_at all k (t ∷ ts) (suc row) c e = none_at all (k + 1) ts row c e
+
+pub no_parameters : (ds : List DeclarationTree) → ArePlain ds → HasNoParameters (hierarchy_of ds)
+no_parameters ds plain row c e =
+    none_at (rows ds) 0 throwables row c (ap (λ rs. slice_get (row_headers (rows ds) 0 rs) row) (sym (rows_plainly ds plain)) ∙ e)

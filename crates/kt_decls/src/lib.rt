@@ -1,0 +1,4 @@
+//! The headers of a file, or the place of the first that isn't well formed.
+#![tactic(auto)]
+
+pub mod declaring;

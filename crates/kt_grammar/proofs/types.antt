@@ -1,0 +1,4 @@
+-- Types are read exactly.
+pub mod TypesRead
+pub mod TypeParts
+pub mod TypeLaws

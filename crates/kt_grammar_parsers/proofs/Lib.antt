@@ -1,0 +1,12 @@
+pub mod Ends
+pub mod Correct
+pub mod Bind
+pub mod Steps
+pub mod Skip
+pub mod On
+pub mod Attempt
+pub mod Repeat
+pub mod Whole
+pub mod Forms
+pub mod Optional
+pub mod Behind

@@ -1,0 +1,3 @@
+pub mod Parsers
+pub mod Phrases
+pub mod Sentences

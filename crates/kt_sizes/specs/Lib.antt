@@ -1,0 +1,3 @@
+pub mod Counting
+pub mod Capped
+pub mod Weight

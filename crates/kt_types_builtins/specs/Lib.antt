@@ -1,0 +1,4 @@
+pub mod Types
+pub mod Throwables
+pub mod Functions
+pub mod Members
