@@ -2,3 +2,7 @@
 //!
 //! The folder `specs/` has them as plain data, on which the rules of typing stand.
 #![tactic(auto)]
+
+pub mod facts;
+
+pub use facts::{Facts, LocalFacts};
