@@ -1,8 +1,8 @@
 -- Sums of counts, as far as they count.
 use Rattle.std.proofs.Common.{◌≡◌, ℕ, zero, suc, ◌+◌, max, min, refl, ap, ap₂, arith, sym, ◌∙◌}
 use Rattle.kt_sizes.specs.declared.sizes.Sizes.{Sizes}
-use Rattle.kt_sizes.specs.Counting.{nothing, ◌&◌, deeper}
-use Rattle.kt_sizes.specs.Capped.{cap, capped, Partly}
+use Rattle.kt_sizes.specs.Counting.{nothing, both, ◌&◌}
+use Rattle.kt_sizes.specs.Capped.{capped, Partly}
 
 -- counts that agree one by one
 fields : (a b : Sizes) → a.nodes ≡ b.nodes → a.heavy ≡ b.heavy → a.captured ≡ b.captured → a.points ≡ b.points
@@ -18,12 +18,15 @@ fields a b nodes heavy captured points kept depth = λ i.
     }
 
 pub none_before : (a : Sizes) → nothing & a ≡ a
+unfolding both
 none_before a = fields (nothing & a) a (omega arith) (omega arith) (omega arith) (omega arith) (omega arith) (omega arith)
 
 pub none_behind : (a : Sizes) → a & nothing ≡ a
+unfolding both
 none_behind a = fields (a & nothing) a (omega arith) (omega arith) (omega arith) (omega arith) (omega arith) (omega arith)
 
 pub together : (a b c : Sizes) → a & (b & c) ≡ (a & b) & c
+unfolding both
 together a b c =
     fields (a & (b & c)) ((a & b) & c) (omega arith) (omega arith) (omega arith) (omega arith) (omega arith) (omega arith)
 

@@ -24,6 +24,7 @@ pub struct Sizes {
 
 impl Sizes {
     /// What counts for nothing.
+    #[tactic(auto, unfolding(crate::specs::Capped::capped))]
     pub fn nothing() -> Sizes
         ensures { result ≡ capped spec.nothing }
     {
@@ -38,59 +39,91 @@ impl Sizes {
     }
 
     /// A node.
+    #[tactic(auto, unfolding(crate::specs::Capped::capped))]
     pub fn node() -> Sizes
         ensures { result ≡ capped spec.node }
     {
-        Sizes { nodes: 1, ..Sizes::nothing() }
+        Sizes {
+            nodes: 1,
+            ..Sizes::nothing()
+        }
     }
 
     /// A `while`, a `do`, a `catch`.
+    #[tactic(auto, unfolding(crate::specs::Capped::capped))]
     pub fn heavy_node() -> Sizes
         ensures { result ≡ capped spec.heavy_node }
     {
-        Sizes { heavy: 1, ..Sizes::node() }
+        Sizes {
+            heavy: 1,
+            ..Sizes::node()
+        }
     }
 
     /// A `for`, which keeps its bound.
+    #[tactic(auto, unfolding(crate::specs::Capped::capped))]
     pub fn for_node() -> Sizes
         ensures { result ≡ capped spec.for_node }
     {
-        Sizes { heavy: 1, kept: 1, ..Sizes::node() }
+        Sizes {
+            heavy: 1,
+            kept: 1,
+            ..Sizes::node()
+        }
     }
 
     /// A `when`, which keeps its subject.
+    #[tactic(auto, unfolding(crate::specs::Capped::capped))]
     pub fn when_node() -> Sizes
         ensures { result ≡ capped spec.when_node }
     {
-        Sizes { kept: 1, ..Sizes::node() }
+        Sizes {
+            kept: 1,
+            ..Sizes::node()
+        }
     }
 
     /// A `try`, which keeps what its `finally` goes on with.
+    #[tactic(auto, unfolding(crate::specs::Capped::capped))]
     pub fn try_node() -> Sizes
         ensures { result ≡ capped spec.try_node }
     {
-        Sizes { heavy: 1, kept: 4, ..Sizes::node() }
+        Sizes {
+            heavy: 1,
+            kept: 4,
+            ..Sizes::node()
+        }
     }
 
     /// A lambda literal with so many captures.
+    #[tactic(auto, unfolding(crate::specs::Capped::capped))]
     pub fn lambda_node(captures: u64) -> Sizes
         ensures { result ≡ capped (spec.lambda_node captures) }
     {
-        Sizes { captured: captures, ..Sizes::node() }
+        Sizes {
+            captured: captures,
+            ..Sizes::node()
+        }
     }
 
     /// A suspension point, where it is one.
+    #[tactic(auto, unfolding(crate::specs::Capped::capped))]
     pub fn point_if(suspends: bool) -> Sizes
         ensures { result ≡ capped (spec.point_if suspends) }
     {
         if suspends {
-            Sizes { points: 1, depth: 1, ..Sizes::nothing() }
+            Sizes {
+                points: 1,
+                depth: 1,
+                ..Sizes::nothing()
+            }
         } else {
             Sizes::nothing()
         }
     }
 
     /// Two parts together.
+    #[tactic(auto, unfolding(crate::specs::Capped::capped, crate::specs::Counting::both))]
     pub fn beside(self, other: Sizes) -> Sizes
         ensures { (a b : Sizes) → self ≡ capped a → other ≡ capped b → result ≡ capped (a & b) }
     {
@@ -105,6 +138,7 @@ impl Sizes {
     }
 
     /// The part, evaluated while so many operands wait.
+    #[tactic(auto, unfolding(crate::specs::Capped::capped, crate::specs::Counting::behind))]
     pub fn behind(self, waiting: u64) -> Sizes
         ensures { (a : Sizes) (w : ℕ) → self ≡ capped a → waiting ≡ cap w → result ≡ capped (spec.behind w a) }
     {
