@@ -15,9 +15,8 @@ abbrev pub nothing : Sizes
 nothing = record { nodes = 0; heavy = 0; captured = 0; points = 0; kept = 0; depth = 0 }
 
 -- two parts of a body
-infixl 20 ◌&◌
-abbrev pub ◌&◌ : Sizes → Sizes → Sizes
-a & b =
+unfoldable pub both : Sizes → Sizes → Sizes
+both a b =
     record {
       nodes = a.nodes + b.nodes;
       heavy = a.heavy + b.heavy;
@@ -26,6 +25,10 @@ a & b =
       kept = a.kept + b.kept;
       depth = max a.depth b.depth;
     }
+
+infixl 20 ◌&◌
+abbrev pub ◌&◌ : Sizes → Sizes → Sizes
+◌&◌ = both
 
 -- What one node counts for.
 
@@ -64,7 +67,7 @@ deeper waiting zero = zero
 deeper waiting (suc n) = suc n + waiting
 
 -- a part that is evaluated while so many operands wait
-abbrev pub behind : ℕ → Sizes → Sizes
+unfoldable pub behind : ℕ → Sizes → Sizes
 behind waiting s = record s { depth = deeper waiting s.depth }
 
 -- `||`, `&&` and `?:` are done with the left side before the right one is evaluated
