@@ -105,7 +105,8 @@ read_member is_safe u (Some p) = Some (property (or_null is_safe p.1) (receiver 
 abbrev pub member_read : HierarchyForm → Bool → List ℕ → ExpressionForm → Option ExpressionForm
 member_read h is_safe x u = read_member is_safe u (member_of h (asked_of is_safe (type_of u)) x)
 
-pub record Members (K : Context) (e : Rule) (is_safe : Bool) (x : List ℕ) (s : State) (w : Use) (us : List ExpressionForm)
+pub record Members (K : Context) (e : Rule) (is_safe : Bool) (x : List ℕ) (s : State)
+    (w : Use) (us : List ExpressionForm)
     (behind : State) : Type 0 where
   pub receivers : List ExpressionForm
   pub end : State
