@@ -8,3 +8,4 @@ mod OnceBodies
 mod Placed
 mod Worked
 mod Examples
+mod Forms

@@ -18,7 +18,9 @@ pub record OnceLines (e : LinesRule) : Type 0 where
       (s t : State) (w x : Use) (us vs : List StatementForm) (m n : MaybeExpression) (a b : State) →
       s ≡ t → w ≡ x → e s w us m a → e t x vs n b → (us ≡ vs) × (m ≡ n) × (a ≡ b)
 
-pub once_lines : {e : LinesRule} {s t : State} {w x : Use} {us vs : List StatementForm} {m n : MaybeExpression} {a b : State} → OnceLines e → s ≡ t → w ≡ x → e s w us m a → e t x vs n b → (us ≡ vs) × (m ≡ n) × (a ≡ b)
+pub once_lines :
+    {e : LinesRule} {s t : State} {w x : Use} {us vs : List StatementForm} {m n : MaybeExpression} {a b : State} →
+    OnceLines e → s ≡ t → w ≡ x → e s w us m a → e t x vs n b → (us ≡ vs) × (m ≡ n) × (a ≡ b)
 once_lines i p q y z = i.all _ _ _ _ _ _ _ _ _ _ p q y z
 
 pub no_lines_once : (K : Context) → OnceLines (NoLines K)
@@ -91,7 +93,9 @@ pub record OnceElse (e : ElseRule) : Type 0 where
       (s t : State) (w x : Use) (u v : MaybeBlock) (ts us : List TypeForm) (k l : Path) (a b : State) →
       s ≡ t → w ≡ x → e s w u ts k a → e t x v us l b → (u ≡ v) × (ts ≡ us) × (k ≡ l) × (a ≡ b)
 
-once_else : {e : ElseRule} {s t : State} {w x : Use} {u v : MaybeBlock} {ts us : List TypeForm} {k l : Path} {a b : State} → OnceElse e → s ≡ t → w ≡ x → e s w u ts k a → e t x v us l b → (u ≡ v) × (ts ≡ us) × (k ≡ l) × (a ≡ b)
+once_else :
+    {e : ElseRule} {s t : State} {w x : Use} {u v : MaybeBlock} {ts us : List TypeForm} {k l : Path} {a b : State} →
+    OnceElse e → s ≡ t → w ≡ x → e s w u ts k a → e t x v us l b → (u ≡ v) × (ts ≡ us) × (k ≡ l) × (a ≡ b)
 once_else i p q y z = i.all _ _ _ _ _ _ _ _ _ _ _ _ p q y z
 
 no_else : (s t : State) (w : Use) (u v : MaybeBlock) (ts us : List TypeForm) (k l : Path) (a b : State) → s ≡ t →

@@ -6,7 +6,7 @@ use Rattle.kt_typed.specs.Bodies.{ExpressionForm}
 use Rattle.kt_check_rules.specs.States.{Context, State}
 use Rattle.kt_check_rules.specs.Typings.{Rule}
 use Rattle.kt_check_rules.specs.Literals.{can_print}
-use Rattle.kt_check_rules.specs.Calls.{Wanted, of_type, printable, Callable, Argument, ArgumentsRule, NoArguments, MoreArguments, Calls, MethodCalls, callable_on}
+use Rattle.kt_check_rules.specs.Calls.{Wanted, of_type, printed, Callable, Argument, ArgumentsRule, NoArguments, MoreArguments, Calls, MethodCalls, callable_on}
 use Rattle.kt_check_rules.proofs.Once.{OnceFor, OnceAt, once, once_at, same_some, gives_one, typed_once, chosen_once, none_once, then_once}
 
 -- for what arguments have to be
@@ -15,7 +15,7 @@ pub record OnceEach (es : ArgumentsRule) : Type 0 where
 
 argument_once : (K : Context) (e : Rule) (w : Wanted) → OnceFor e → OnceAt (Argument K e w)
 argument_once K e (of_type t) i = record { all = λ s r u v a b p y z. once (typed_once K e i) p refl y z }
-argument_once K e printable i = chosen_once (can_print K) e i
+argument_once K e printed i = chosen_once (can_print K) e i
 
 no_arguments : (ws : List Wanted) → OnceAt (NoArguments ws)
 no_arguments [] = none_once

@@ -171,8 +171,8 @@ elements_once a i j k = record {
       gives_if _ _ _ _ us vs c d (rw (l.0, r.0) refl) r.1 y.gives z.gives;
 }
 
-pub members_once : (e : Rule) (n : Bool) (m : List ℕ) → OnceFor e → OnceFor (Members e n m)
-members_once e n m i = record {
+pub members_once : (K : Context) (e : Rule) (n : Bool) (m : List ℕ) → OnceFor e → OnceFor (Members K e n m)
+members_once K e n m i = record {
   all = λ s t w x us vs a b p q y z.
       let r = once i p refl y.of_what z.of_what in
       gives_if _ _ _ _ us vs a b (rw r.0 refl) r.1 y.gives z.gives;

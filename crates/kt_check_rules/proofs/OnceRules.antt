@@ -34,7 +34,7 @@ mutual
   typed K (type_check at e n t) = tests_once K (Typed K e) n (meaning K t) (typed K e)
   typed K (cast at e n t) = casts_once K (Typed K e) n (meaning K t) (typed K e)
   typed K (not_null at e) = not_nulls_once K (Typed K e) (typed K e)
-  typed K (member at e n x) = members_once (Typed K e) n x (typed K e)
+  typed K (member at e n x) = members_once K (Typed K e) n x (typed K e)
   typed K (index at a i) = elements_once (Typed K a) (Typed K i) (typed K a) (typed K i)
   typed K (call at (name place x) ts es) = calls_once (callable K x ts (count es)) (TypedAll K es) (suffix_of at)
       (arguments K es)

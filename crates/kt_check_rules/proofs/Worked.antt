@@ -1,6 +1,7 @@
 -- Worked rows: derivations of small files, and refusals at their places.
 use Rattle.std.proofs.Common.{ℕ, zero, suc, ◌≤◌, arith, List, [], ◌∷◌, Some, ◌≡◌, refl, ap, ◌∙◌, sym, subst, Bool, true, false, inl, inr}
-use Rattle.kt_decls_types.specs.Names.{built_in_named, all_types}
+use Rattle.kt_types_builtins.specs.Types.{type_of_name, types}
+use Rattle.kt_types_builtins.specs.Functions.{function_of_name, functions}
 use Rattle.kt_types_order.specs.Below.{same, null_below}
 use Rattle.kt_typed.specs.Bodies.{ExpressionForm, FunForm}
 use Rattle.kt_check_rules.specs.Bodies.{AreBodies}
@@ -21,7 +22,7 @@ use Rattle.kt_check_rules.proofs.OnceRules as rules
 
 -- facts through `if`, and `?:`
 pub smart_cast_typed : (fs : List FunForm) × AreBodies (bodies smart_cast) fs
-unfolding built_in_named all_types
+unfolding type_of_name types function_of_name functions
 smart_cast_typed = (
   _ ∷ [],
   (
@@ -230,7 +231,7 @@ smart_cast_typed = (
 
 -- `val y: Int = 1` alone
 pub int_typed : (fs : List FunForm) × AreBodies (cut 1 (bodies long_for_int)) fs
-unfolding built_in_named all_types
+unfolding type_of_name types function_of_name functions
 int_typed = (
   _ ∷ [],
   (
@@ -287,7 +288,7 @@ no_long h t us u e f p =
     alone (inr q) = q.1
 
 long_has_no_typing : HasNoTyping (cut 2 (bodies long_for_int))
-unfolding built_in_named all_types
+unfolding type_of_name types function_of_name functions
 long_has_no_typing fs (f, rest, (b, more)) =
     let x = b.are.rest.first.typed in
     no_long _ x.t x.value.typings x.u x.means x.value.reads.0 x.value.takes
@@ -320,6 +321,7 @@ long_refused = at_statement (record {
 
 -- `println(1)` alone
 pub print_typed : (fs : List FunForm) × AreBodies (cut 1 (bodies without_result)) fs
+unfolding function_of_name functions
 print_typed = (
   _ ∷ _ ∷ [],
   (
@@ -378,7 +380,7 @@ falls_out true e p = cc
 falls_out false e p = cc
 
 brace_has_no_typing : HasNoTyping (cut 2 (bodies without_result))
-unfolding print_typed
+unfolding print_typed function_of_name functions
 brace_has_no_typing fs (f, rest, (b, more)) =
     let known = print_typed.1.2.0.are.first.typed in
     let x = b.are.first in

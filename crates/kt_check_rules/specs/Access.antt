@@ -1,14 +1,18 @@
 -- Type tests, casts, `!!`, elements and members (Kotlin specification, "Type-checking and containment-checking
 -- expressions", "Cast expressions", "Postfix operator expressions", "Navigation operators").
-use Rattle.std.specs.Prelude.{ℕ, Bool, true, false, List, codes, Option, Some, None, ◌≡◌, IsTrue}
+use Rattle.std.specs.Option.{option_map}
+use Rattle.std.specs.Prelude.{ℕ, Bool, true, false, List, Option, Some, None, ◌≡◌, IsTrue}
 use Rattle.kt_types_tree.specs.declared.types.TypeConstructor.TheVariants as c
 use Rattle.kt_types_tree.specs.Types.{TypeForm, typed, of, or_null, forms_end, form_then}
 use Rattle.kt_typed.specs.declared.operators.TypedProperty.{TypedProperty}
-use Rattle.kt_typed.specs.declared.operators.TypedProperty.TheVariants as of_type
+use Rattle.kt_types_tree.specs.Hierarchy.{HierarchyForm}
+use Rattle.kt_types_builtins.specs.declared.members.BuiltInMember.{BuiltInMember}
+use Rattle.kt_check_rules.specs.Builtins.{built_in_member, as_property, result_type}
 use Rattle.kt_typed.specs.Bodies.{ExpressionForm, type_test, cast, not_null, index, property, ReceiverForm, plain, safe}
-use Rattle.kt_check_rules.specs.Choices.{first_some, pairs}
-use Rattle.kt_check_rules.specs.Kinds.{type_of, int_type, char_type, boolean_type, without_null, present_type, is_testable}
-use Rattle.kt_check_rules.specs.States.{Context, State, hierarchy, is_name}
+use Rattle.kt_check_rules.specs.Choices.{first_some, pairs, then_on}
+use Rattle.kt_check_rules.specs.Kinds.{type_of, int_type, char_type, boolean_type, present_type, is_testable}
+use Rattle.kt_types.specs.Null.{bare}
+use Rattle.kt_check_rules.specs.States.{Context, State, hierarchy}
 use Rattle.kt_check_rules.specs.Typings.{Rule, Use, as_value, IsTyped, GivesOne, GivesIf}
 
 -- the type is what is written means, where it has a meaning
@@ -78,21 +82,16 @@ pub record Elements (a i : Rule) (s : State) (w : Use) (us : List ExpressionForm
 abbrev pub Member : Type 0
 Member = TypedProperty × TypeForm
 
-abbrev pub member_if : Bool → TypedProperty → Option Member
-member_if true p = Some (p, int_type)
-member_if false p = None
-
 -- the built-in properties
-abbrev pub member_of : TypeForm → List ℕ → Option Member
-member_of (typed false (of c.IntArray ts)) x = member_if (is_name x (codes "size")) of_type.Size
-member_of (typed false (of c.Array ts)) x = member_if (is_name x (codes "size")) of_type.Size
-member_of (typed false (of c.String ts)) x = member_if (is_name x (codes "length")) of_type.Length
-member_of (typed false (of c.Char ts)) x = member_if (is_name x (codes "code")) of_type.Code
-member_of _ x = None
+abbrev pub property_of : TypeForm → BuiltInMember → Option Member
+property_of t m = option_map (λ p. (p, result_type t m)) (as_property m)
+
+abbrev pub member_of : HierarchyForm → TypeForm → List ℕ → Option Member
+member_of h t x = then_on (built_in_member h t x) (property_of t)
 
 -- what a member is asked of: behind `?.` the type without `?`
 abbrev pub asked_of : Bool → TypeForm → TypeForm
-asked_of true t = without_null t
+asked_of true t = bare t
 asked_of false t = t
 
 abbrev pub receiver : Bool → ExpressionForm → ReceiverForm
@@ -103,12 +102,13 @@ abbrev pub read_member : Bool → ExpressionForm → Option Member → Option Ex
 read_member is_safe u None = None
 read_member is_safe u (Some p) = Some (property (or_null is_safe p.1) (receiver is_safe u) p.0)
 
-abbrev pub member_read : Bool → List ℕ → ExpressionForm → Option ExpressionForm
-member_read is_safe x u = read_member is_safe u (member_of (asked_of is_safe (type_of u)) x)
+abbrev pub member_read : HierarchyForm → Bool → List ℕ → ExpressionForm → Option ExpressionForm
+member_read h is_safe x u = read_member is_safe u (member_of h (asked_of is_safe (type_of u)) x)
 
-pub record Members (e : Rule) (is_safe : Bool) (x : List ℕ) (s : State) (w : Use) (us : List ExpressionForm)
+pub record Members (K : Context) (e : Rule) (is_safe : Bool) (x : List ℕ) (s : State)
+    (w : Use) (us : List ExpressionForm)
     (behind : State) : Type 0 where
   pub receivers : List ExpressionForm
   pub end : State
   pub of_what : e s as_value receivers end
-  pub gives : GivesIf (first_some (member_read is_safe x) receivers) end us behind
+  pub gives : GivesIf (first_some (member_read (hierarchy K) is_safe x) receivers) end us behind

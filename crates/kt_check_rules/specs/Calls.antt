@@ -1,5 +1,6 @@
 -- Calls (Kotlin specification, "Function calls and property access", "Overload resolution").
-use Rattle.std.specs.Prelude.{ℕ, zero, suc, Bool, true, false, List, [], ◌∷◌, ◌+◌, ◌==◌, ◌&&◌, codes, length, map, Option, Some, None, ◌≡◌, if◌then◌else◌}
+use Rattle.std.specs.Option.{option_map}
+use Rattle.std.specs.Prelude.{ℕ, zero, suc, Bool, true, false, List, [], ◌∷◌, ◌+◌, ◌==◌, ◌&&◌, length, map, Option, Some, None, ◌≡◌, if◌then◌else◌}
 use Rattle.kt_base.specs.declared.refusals.Pos.{Pos}
 use Rattle.kt_tree.specs.Types.{TypeTree}
 use Rattle.kt_tree.specs.Bodies as tree
@@ -10,12 +11,17 @@ use Rattle.kt_types_tree.specs.Hierarchy.{HierarchyForm}
 use Rattle.kt_typed.specs.declared.headers.DeclaredTypeParameter.{DeclaredTypeParameter}
 use Rattle.kt_typed.specs.declared.operators.BuiltIn.TheVariants as built
 use Rattle.kt_typed.specs.declared.operators.BuiltInMethod.{BuiltInMethod}
-use Rattle.kt_typed.specs.declared.operators.BuiltInMethod.TheVariants as method
+use Rattle.kt_types_builtins.specs.declared.members.MemberType.{MemberType}
+use Rattle.kt_types_builtins.specs.declared.members.BuiltInMember.{BuiltInMember}
+use Rattle.kt_types_builtins.specs.declared.functions.BuiltInFunction.{BuiltInFunction}
+use Rattle.kt_types_builtins.specs.declared.functions.BuiltInFunction.TheVariants as named
+use Rattle.kt_types_builtins.specs.Functions.{function_of_name}
+use Rattle.kt_check_rules.specs.Builtins.{built_in_member, as_method, result_type, parameter_types, member_type}
 use Rattle.kt_typed.specs.Headers.{FunctionForm, ParameterForm}
 use Rattle.kt_typed.specs.Bodies.{ExpressionForm, call, call_of, CalleeForm, function, built_in, built_in_method, expressions_of}
 use Rattle.kt_flow.specs.Facts.{FactsForm, meet}
 use Rattle.kt_check_rules.specs.Choices.{first_some, or_else, then_on}
-use Rattle.kt_check_rules.specs.Kinds.{type_of, plain, int_type, long_type, char_type, string_type, unit_type, is_printable}
+use Rattle.kt_check_rules.specs.Kinds.{type_of, plain, int_type, unit_type}
 use Rattle.kt_check_rules.specs.States.{Context, State, hierarchy, meaning, is_name, with_facts}
 use Rattle.kt_check_rules.specs.Literals.{can_print}
 use Rattle.kt_check_rules.specs.Access.{asked_of, receiver}
@@ -26,7 +32,7 @@ pub data Wanted : Type 0 where
   -- it meets a type
   of_type : TypeForm → Wanted
   -- one of its types can be printed
-  printable : Wanted
+  printed : Wanted
 
 -- what can be called, for given type arguments
 pub record Callable : Type 0 where
@@ -44,7 +50,7 @@ count (tree.expression_then e es) = count es + 1
 
 abbrev pub Argument : Context → Rule → Wanted → State → ExpressionForm → State → Type 0
 Argument K e (of_type t) s u behind = IsTyped K e s (meeting t) u behind
-Argument K e printable s u behind = IsChosen (can_print K) e s u behind
+Argument K e printed s u behind = IsChosen (can_print K) e s u behind
 
 abbrev pub ArgumentsRule : Type 1
 ArgumentsRule = List Wanted → State → List ExpressionForm → State → Type 0
@@ -108,7 +114,7 @@ print_value =
     record {
       callee = built_in built.Println;
       type_arguments = [];
-      wanted = printable ∷ [];
+      wanted = printed ∷ [];
       result = unit_type;
       suspends = false;
     }
@@ -141,22 +147,16 @@ abbrev pub nulls_of : TypeForm → Option Callable
 nulls_of (typed n (parameter row place)) = None
 nulls_of t = Some (make_nulls t)
 
-abbrev pub println_with : ℕ → Option Callable
-println_with zero = Some print_nothing
-println_with (suc zero) = Some print_value
-println_with _ = None
-
-abbrev pub with_one : ℕ → Option Callable → Option Callable
-with_one (suc zero) o = o
-with_one _ o = None
+-- of the built-in functions, with type arguments and called with so many arguments
+abbrev pub function_called : Context → BuiltInFunction → List TypeTree → ℕ → Option Callable
+function_called K named.Println [] zero = Some print_nothing
+function_called K named.Println [] (suc zero) = Some print_value
+function_called K named.IntArray [] (suc zero) = Some make_ints
+function_called K named.ArrayOfNulls (t ∷ []) (suc zero) = then_on (meaning K t) nulls_of
+function_called K _ ts k = None
 
 abbrev pub built_in_named : Context → List ℕ → List TypeTree → ℕ → Option Callable
-built_in_named K x [] k =
-    if is_name x (codes "println") then println_with k else
-    if is_name x (codes "IntArray") then with_one k (Some make_ints) else None
-built_in_named K x (t ∷ []) k =
-    if is_name x (codes "arrayOfNulls") then with_one k (then_on (meaning K t) nulls_of) else None
-built_in_named K x _ k = None
+built_in_named K x ts k = then_on (function_of_name x) (λ f. function_called K f ts k)
 
 abbrev pub callable : Context → List ℕ → List TypeTree → ℕ → Option Callable
 callable K x ts k = or_else (function_named K 0 K.headers.functions x ts k) (built_in_named K x ts k)
@@ -181,30 +181,14 @@ pub record Method : Type 0 where
   pub wanted : List Wanted
   pub result : TypeForm
 
-abbrev pub method_with : BuiltInMethod → List Wanted → TypeForm → Method
-method_with m ws t = record { name = m; wanted = ws; result = t }
+abbrev pub wanted_of : TypeForm → MemberType → Wanted
+wanted_of t p = of_type (member_type t p)
 
-abbrev pub method_if : Bool → Method → Option Method
-method_if true m = Some m
-method_if false m = None
+abbrev pub method_with : TypeForm → BuiltInMember → BuiltInMethod → Method
+method_with t m f = record { name = f; wanted = map (wanted_of t) (parameter_types m); result = result_type t m }
 
-abbrev pub method_of : TypeForm → List ℕ → Option Method
-method_of (typed false (of c.String ts)) x =
-    method_if (is_name x (codes "substring"))
-    (method_with method.Substring (of_type int_type ∷ of_type int_type ∷ []) string_type)
-method_of (typed false (of c.Int ts)) x =
-    or_else (method_if (is_name x (codes "toLong")) (method_with method.ToLong [] long_type))
-    (or_else (method_if (is_name x (codes "toChar")) (method_with method.ToChar [] char_type))
-    (method_if (is_name x (codes "inv")) (method_with method.Inv [] int_type)))
-method_of (typed false (of c.Long ts)) x =
-    or_else (method_if (is_name x (codes "toInt")) (method_with method.ToInt [] int_type))
-    (method_if (is_name x (codes "inv")) (method_with method.Inv [] long_type))
-method_of _ x = None
-
--- each type that can be printed has it, with `?` or not
-abbrev pub to_string : HierarchyForm → TypeForm → List ℕ → Option Method
-to_string h t x =
-    method_if (is_printable h t && is_name x (codes "toString")) (method_with method.ToString [] string_type)
+abbrev pub method_of : TypeForm → BuiltInMember → Option Method
+method_of t m = option_map (method_with t m) (as_method m)
 
 -- with so many arguments
 abbrev pub taking : ℕ → Method → Option Method
@@ -222,7 +206,7 @@ method_call is_safe u m =
     })
 
 abbrev pub method_named : HierarchyForm → TypeForm → List ℕ → Option Method
-method_named h t x = or_else (method_of t x) (to_string h t x)
+method_named h t x = then_on (built_in_member h t x) (method_of t)
 
 abbrev pub method_on : Context → Bool → List ℕ → ℕ → ExpressionForm → Option Callable
 method_on K is_safe x k u =

@@ -2,11 +2,10 @@
 use Rattle.std.specs.Prelude.{ℕ, suc, Bool, true, false, not, List, [], ◌∷◌, length, slice_get, Option, Some, None, if◌then◌else◌, ◌==◌}
 use Rattle.kt_types_tree.specs.declared.types.TypeConstructor.{TypeConstructor}
 use Rattle.kt_types_tree.specs.declared.types.TypeConstructor.TheVariants as c
-use Rattle.kt_types_tree.specs.declared.hierarchy.ClassKind.{ClassKind}
-use Rattle.kt_types_tree.specs.declared.hierarchy.ClassKind.TheVariants as kind
 use Rattle.kt_types_tree.specs.Types.{TypeForm, typed, nothing, any, parameter, of, forms_end, or_null}
 use Rattle.kt_types_tree.specs.Hierarchy.{HierarchyForm, HeaderForm}
 use Rattle.kt_types_order.specs.Below.{IsBelow}
+use Rattle.kt_types.specs.Null.{bare}
 use Rattle.kt_typed.specs.declared.operators.Width.{Width}
 use Rattle.kt_typed.specs.declared.operators.Width.TheVariants as width
 use Rattle.kt_typed.specs.Bodies.{ExpressionForm, literal, template, local, captured, this, constant, enum_entry, property, prefix, binary, type_test, cast, not_null, index, call, if_else, when, try_catch, throw, return, break, continue, lambda}
@@ -83,10 +82,6 @@ abbrev pub number_type : Width → TypeForm
 number_type width.Int = int_type
 number_type width.Long = long_type
 
--- a type without its `?`
-abbrev pub without_null : TypeForm → TypeForm
-without_null (typed n s) = typed false s
-
 abbrev pub bound_or_any : Option TypeForm → TypeForm
 bound_or_any None = typed true any
 bound_or_any (Some t) = t
@@ -103,21 +98,7 @@ may_be_null h t = allows_null h.bounds (length h.bounds) t
 
 -- what `!= null` and `!!` give: the type without `?`, and `Any` for a type parameter that may be null
 abbrev pub present_type : HierarchyForm → TypeForm → TypeForm
-present_type h t = if may_be_null h (without_null t) then typed false any else without_null t
-
-abbrev pub kind_prints : ClassKind → Bool → Bool
-kind_prints kind.Enum own = true
-kind_prints kind.DataClass own = true
-kind_prints kind.Class own = own
-kind_prints kind.Interface own = own
-
-abbrev pub class_prints : Option HeaderForm → Bool
-class_prints None = false
-class_prints (Some d) = kind_prints d.kind d.has_to_string
-
-abbrev pub class_equates : Option HeaderForm → Bool
-class_equates None = false
-class_equates (Some d) = kind_prints d.kind d.has_equals
+present_type h t = if may_be_null h (bare t) then typed false any else bare t
 
 -- basic types and `Unit`
 abbrev pub is_basic : TypeConstructor → Bool
@@ -128,25 +109,6 @@ is_basic c.Char = true
 is_basic c.String = true
 is_basic c.Unit = true
 is_basic _ = false
-
-abbrev pub prints : HierarchyForm → TypeConstructor → Bool
-prints h (c.Class n) = class_prints (slice_get h.classes n)
-prints h head = is_basic head
-
-abbrev pub equates : HierarchyForm → TypeConstructor → Bool
-equates h (c.Class n) = class_equates (slice_get h.classes n)
-equates h head = is_basic head
-
--- it can be printed, with `?` or not; so can `Nothing?`
-abbrev pub is_printable : HierarchyForm → TypeForm → Bool
-is_printable h (typed n nothing) = n
-is_printable h (typed n (of head ts)) = prints h head
-is_printable h _ = false
-
--- it stands on the left of `==`
-abbrev pub is_equatable : HierarchyForm → TypeForm → Bool
-is_equatable h (typed n (of head ts)) = equates h head
-is_equatable h _ = false
 
 abbrev pub has_no_parameters : Option HeaderForm → Bool
 has_no_parameters None = false

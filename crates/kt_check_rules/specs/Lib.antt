@@ -1,5 +1,6 @@
 pub mod Choices
 pub mod Kinds
+pub mod Builtins
 pub mod States
 pub mod Typings
 pub mod Literals

@@ -9,7 +9,8 @@ use Rattle.kt_types_tree.specs.declared.types.TypeConstructor.TheVariants as c
 use Rattle.kt_types_tree.specs.Types.{TypeForm, typed, nothing, of}
 use Rattle.kt_typed.specs.declared.operators.TypedLiteral.TheVariants as is
 use Rattle.kt_typed.specs.Bodies.{ExpressionForm, literal, template, PartForm, text, printed, parts_of}
-use Rattle.kt_check_rules.specs.Kinds.{int_type, long_type, boolean_type, char_type, string_type, is_printable, type_of}
+use Rattle.kt_check_rules.specs.Kinds.{int_type, long_type, boolean_type, char_type, string_type, type_of}
+use Rattle.kt_types.specs.Kinds.{printable}
 use Rattle.kt_check_rules.specs.States.{Context, State, hierarchy}
 use Rattle.kt_check_rules.specs.Typings.{Rule, Use, unused, as_value, meeting, IsChosen, GivesIf, GivesOne}
 
@@ -63,7 +64,7 @@ abbrev pub TextParts : TextPart → State → PartForm → State → Type 0
 TextParts t s p behind = (p ≡ text t) × (behind ≡ s)
 
 abbrev pub can_print : Context → ExpressionForm → Bool
-can_print K u = is_printable (hierarchy K) (type_of u)
+can_print K u = printable (hierarchy K) (type_of u)
 
 -- an expression that is printed
 pub record PrintedParts (K : Context) (e : Rule) (s : State) (p : PartForm) (behind : State) : Type 0 where

@@ -24,7 +24,10 @@ use Rattle.kt_typed.specs.declared.operators.TypedOperator.TheVariants as op
 use Rattle.kt_typed.specs.Bodies.{ExpressionForm, literal, prefix, binary}
 use Rattle.kt_flow.specs.Facts.{FactsForm, meet}
 use Rattle.kt_check_rules.specs.Choices.{IsFirst, first_some, pairs, then_on}
-use Rattle.kt_check_rules.specs.Kinds.{type_of, width_of, number_type, boolean_type, string_type, is_printable, is_equatable, is_operand, may_be_null, without_null, present_type, IsCommon}
+use Rattle.kt_check_rules.specs.Kinds.{type_of, width_of, number_type, boolean_type, string_type, is_operand, may_be_null, present_type, IsCommon}
+use Rattle.kt_types.specs.Kinds.{printable}
+use Rattle.kt_types.specs.Kinds.{equatable}
+use Rattle.kt_types.specs.Null.{bare}
 use Rattle.kt_check_rules.specs.States.{Context, State, hierarchy, with_facts}
 use Rattle.kt_check_rules.specs.Learning.{learnt}
 use Rattle.kt_check_rules.specs.Typings.{Rule, Use, unused, as_value, meeting, IsTyped, GivesOne, GivesIf}
@@ -56,7 +59,7 @@ is_character _ = false
 -- a string and what can be printed, else two numbers
 abbrev pub added : HierarchyForm → TypeForm → TypeForm → Option Operation
 added h s t =
-    if is_string s then (if is_printable h t then Some (op.Concatenate, string_type) else None) else computed
+    if is_string s then (if printable h t then Some (op.Concatenate, string_type) else None) else computed
     arithmetic.Plus s t
 
 abbrev pub same_width : BitwiseOperator → Option Width → Option Width → Option Operation
@@ -125,10 +128,10 @@ IsBesideNull h u v = IsTrue (is_null u) × IsTrue (may_be_null h (type_of v))
 
 -- without `?` one is a subtype of the other
 abbrev pub AreRelated : HierarchyForm → TypeForm → TypeForm → Type 0
-AreRelated h s t = IsBelow h (without_null s) (without_null t) ⊎ IsBelow h (without_null t) (without_null s)
+AreRelated h s t = IsBelow h (bare s) (bare t) ⊎ IsBelow h (bare t) (bare s)
 
 abbrev pub AreEquated : HierarchyForm → ExpressionForm → ExpressionForm → Type 0
-AreEquated h u v = IsTrue (is_equatable h (type_of u) && is_operand (type_of v)) × AreRelated h (type_of u) (type_of v)
+AreEquated h u v = IsTrue (equatable h (type_of u) && is_operand (type_of v)) × AreRelated h (type_of u) (type_of v)
 
 abbrev pub AreComparable : HierarchyForm → (ExpressionForm × ExpressionForm) → Type 0
 AreComparable h (u, v) = (IsBesideNull h u v ⊎ IsBesideNull h v u) ⊎ AreEquated h u v

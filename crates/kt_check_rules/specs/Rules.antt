@@ -51,7 +51,7 @@ abbrev mutual
   Typed K (type_check at e is_negated t) = TypeTests K (Typed K e) is_negated (meaning K t)
   Typed K (cast at e gives_null t) = Casts K (Typed K e) gives_null (meaning K t)
   Typed K (not_null at e) = NotNulls K (Typed K e)
-  Typed K (member at e is_safe x) = Members (Typed K e) is_safe x
+  Typed K (member at e is_safe x) = Members K (Typed K e) is_safe x
   Typed K (index at a i) = Elements (Typed K a) (Typed K i)
   Typed K (call at (name place x) ts es) = Calls (callable K x ts (count es)) (TypedAll K es) (suffix_of at)
   Typed K (call at (member place e is_safe x) ts es) =
