@@ -1,5 +1,5 @@
 -- The weight of a body, by which the code that is made of it is bounded.
-use Rattle.std.specs.Prelude.{ℕ, ◌+◌, ◌-◌, ◌*◌, List, length}
+use Rattle.std.specs.Prelude.{ℕ, ◌+◌, ◌-◌, ◌*◌, length}
 use Rattle.kt_typed.specs.Bodies.{FunForm, fun}
 use Rattle.kt_sizes.specs.declared.sizes.Sizes.{Sizes}
 use Rattle.kt_sizes.specs.Counting.{sizes_of_statements}
