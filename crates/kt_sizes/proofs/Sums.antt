@@ -1,6 +1,6 @@
 -- Sums of counts, as far as they count.
 use Rattle.std.proofs.lemmas.List.{drop_more, drop_all}
-use Rattle.std.proofs.Common.{◌<◌, ◌≤◌, List, [], ◌∷◌, length, get_or, drop, subst, ◌≡◌, ℕ, zero, suc, ◌+◌, max, min, refl, ap, ap₂, arith, sym, ◌∙◌}
+use Rattle.std.proofs.Common.{◌<◌, ◌≤◌, List, [], ◌∷◌, length, get_or, drop, subst, ◌≡◌, ℕ, ◌+◌, min, ap, arith, sym, ◌∙◌}
 use Rattle.kt_sizes.specs.declared.sizes.Sizes.{Sizes}
 use Rattle.kt_sizes.specs.Counting.{nothing, both, ◌&◌}
 use Rattle.kt_sizes.specs.Capped.{cap, capped, Partly}

@@ -1,6 +1,6 @@
 -- What a body counts for: the sum of what its nodes count for. An operand is counted with the operands that wait while
 -- it is evaluated.
-use Rattle.std.specs.Prelude.{ℕ, zero, suc, ◌+◌, max, Bool, true, false, List, length, Option, Some, None}
+use Rattle.std.specs.Prelude.{ℕ, zero, suc, ◌+◌, max, Bool, true, false, length, Option, Some, None}
 use Rattle.kt_typed.specs.declared.operators.TypedOperator.{TypedOperator}
 use Rattle.kt_typed.specs.declared.operators.TypedOperator.TheVariants as operator
 use Rattle.kt_typed.specs.Bodies.{ExpressionForm, literal, template, local, captured, this, constant, enum_entry, property, prefix, binary, type_test, cast, not_null, index, call, if_else, when, try_catch, throw, return, break, continue, lambda}

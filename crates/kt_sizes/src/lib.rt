@@ -3,5 +3,7 @@
 
 pub mod counting;
 pub mod sizes;
+pub mod weights;
 
 pub use sizes::Sizes;
+pub use weights::weight;

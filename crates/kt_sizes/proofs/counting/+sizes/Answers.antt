@@ -1,4 +1,4 @@
-use Rattle.std.proofs.Common.{◌≡◌, List, map, refl, ap, subst, sym, ◌∙◌, ◌+◌, min, arith}
+use Rattle.std.proofs.Common.{List, map, refl, ap, ◌∙◌, ◌+◌, min, arith}
 use Rattle.kt_typed.specs.declared.bodies.TypedExpression.{TypedExpression}
 use Rattle.kt_typed.specs.declared.bodies.TypedPart.{TypedPart}
 use Rattle.kt_typed.specs.declared.bodies.TypedEntry.{TypedEntry}
@@ -6,7 +6,7 @@ use Rattle.kt_typed.specs.declared.bodies.TypedCondition.{TypedCondition}
 use Rattle.kt_typed.specs.declared.bodies.TypedCatch.{TypedCatch}
 use Rattle.kt_typed.specs.declared.bodies.TypedStatement.{TypedStatement}
 use Rattle.kt_typed.specs.Bodies.{catch_form, catches_of, condition_form, conditions_of, entries_of, entry_form, expression_form, expressions_of, part_form, parts_of, statement_form, statements_of}
-use Rattle.kt_sizes.specs.Capped.{cap, capped}
+use Rattle.kt_sizes.specs.Capped.{capped}
 use Rattle.kt_sizes.specs.Counting as spec
 use Rattle.kt_sizes.specs.Counting.{◌&◌}
 use Rattle.kt_sizes.proofs.Sums.{partly_begun, partly_next, partly_all, cap_next}
@@ -82,16 +82,17 @@ all_sizes-loop-argument-init t c = (c.args.waiting, omega (arith, c.ranges.waiti
 pub all_sizes-loop-argument-preserved : goal.all_sizes-loop-argument-preserved
 all_sizes-loop-argument-preserved t c =
     let w = c.loop-argument.invariant.0 in
-    let waits = c.loop-argument.invariant.1 in
-    (w + 1,
-    c.saturating_add-waits.ensures ∙ (ap (λ n. min (n + 1) 18446744073709551615) waits ∙ cap_next w),
-    partly_next (λ (xs : List TypedExpression). spec.sizes_of_all w (expressions_of (map expression_form xs)))
-    (λ (xs : List TypedExpression). spec.sizes_of_all (w + 1) (expressions_of (map expression_form xs)))
-    (λ x. spec.behind w (spec.sizes (expression_form x))) (λ x xs. refl) c.args.arguments.now
-    c.loop-argument.argument-index c.argument-item.result c.loop-argument-test.true c.argument-item.is
-    c.loop-argument.whole c.beside-whole.result _ c.loop-argument.invariant.2
-    (λ a is. c.beside-whole.ensures a (spec.behind w (spec.sizes (expression_form c.argument-item.result))) is
-      (c.behind.ensures (spec.sizes (expression_form c.argument-item.result)) w c.expression_sizes.ensures waits)))
+    let waits = c.loop-argument.invariant.1 in (
+      w + 1,
+      c.saturating_add-waits.ensures ∙ (ap (λ n. min (n + 1) 18446744073709551615) waits ∙ cap_next w),
+      partly_next (λ (xs : List TypedExpression). spec.sizes_of_all w (expressions_of (map expression_form xs)))
+          (λ (xs : List TypedExpression). spec.sizes_of_all (w + 1) (expressions_of (map expression_form xs)))
+          (λ x. spec.behind w (spec.sizes (expression_form x))) (λ x xs. refl) c.args.arguments.now
+          c.loop-argument.argument-index c.argument-item.result c.loop-argument-test.true c.argument-item.is
+          c.loop-argument.whole c.beside-whole.result _ c.loop-argument.invariant.2
+          (λ a is. c.beside-whole.ensures a (spec.behind w (spec.sizes (expression_form c.argument-item.result))) is
+          (c.behind.ensures (spec.sizes (expression_form c.argument-item.result)) w c.expression_sizes.ensures waits)),
+    )
 
 pub all_sizes-returns : goal.all_sizes-returns
 all_sizes-returns t c =
@@ -106,17 +107,19 @@ pub parts_sizes-loop-part-preserved : goal.parts_sizes-loop-part-preserved
 parts_sizes-loop-part-preserved t c =
     let w = c.loop-part.invariant.0 in
     let several = c.has_several-several.result in
-    let held = spec.behind w (spec.sizes_of_part (part_form c.part-item.result)) in
-    (1, refl,
-    partly_next (λ (xs : List TypedPart). spec.sizes_of_parts c.has_several-several.result w (parts_of (map part_form xs)))
-    (λ (xs : List TypedPart). spec.sizes_of_parts c.has_several-several.result 1 (parts_of (map part_form xs)))
-    (λ x. spec.part_node several & spec.behind w (spec.sizes_of_part (part_form x))) (λ x xs. refl) c.args.parts.now
-    c.loop-part.part-index c.part-item.result c.loop-part-test.true c.part-item.is
-    c.loop-part.whole c.beside-whole.result _ c.loop-part.invariant.2
-    (λ a is. c.beside-whole.ensures a (spec.part_node several & held) is
-      (c.beside.ensures (spec.part_node several) held c.part_node.ensures
-        (c.behind.ensures (spec.sizes_of_part (part_form c.part-item.result)) w c.part_sizes.ensures
-          c.loop-part.invariant.1))))
+    let held = spec.behind w (spec.sizes_of_part (part_form c.part-item.result)) in (
+      1,
+      refl,
+      partly_next (λ (xs : List TypedPart). spec.sizes_of_parts c.has_several-several.result w (parts_of (map part_form xs)))
+          (λ (xs : List TypedPart). spec.sizes_of_parts c.has_several-several.result 1 (parts_of (map part_form xs)))
+          (λ x. spec.part_node several & spec.behind w (spec.sizes_of_part (part_form x))) (λ x xs. refl) c.args.parts.now
+          c.loop-part.part-index c.part-item.result c.loop-part-test.true c.part-item.is
+          c.loop-part.whole c.beside-whole.result _ c.loop-part.invariant.2
+          (λ a is. c.beside-whole.ensures a (spec.part_node several & held) is
+          (c.beside.ensures (spec.part_node several) held c.part_node.ensures
+          (c.behind.ensures (spec.sizes_of_part (part_form c.part-item.result)) w c.part_sizes.ensures
+          c.loop-part.invariant.1))),
+    )
 
 pub parts_sizes-returns : goal.parts_sizes-returns
 parts_sizes-returns t c =

@@ -32,4 +32,4 @@ invariant-parts_sizes-loop-part l =
     (w : ℕ)
     × (l.waits ≡ cap w)
     × Partly l.whole (spec.sizes_of_parts l.several w (parts_of (map part_form (drop l.part-index l.parts))))
-      (spec.sizes_of_parts l.several 0 (parts_of (map part_form l.parts)))
+    (spec.sizes_of_parts l.several 0 (parts_of (map part_form l.parts)))
