@@ -39,8 +39,8 @@ class_added old new k name class e absent u x =
     ∙ choice (is_eq (slice_cmp nat_cmp k x)) (get (slice_cmp nat_cmp) old x) name class x
     (ap (λ y. pointwise ◌==◌ y x) (sym e) ∙ texts_ties k x)
     (λ yes.
-      ap (get (slice_cmp nat_cmp) old) (sym (same_name k x yes) ∙ e)
-      ∙ is_absent (get (slice_cmp nat_cmp) old name) absent)
+    ap (get (slice_cmp nat_cmp) old) (sym (same_name k x yes) ∙ e)
+    ∙ is_absent (get (slice_cmp nat_cmp) old name) absent)
 
 pub no_class : (o : Option NamedClass) → is_some o ≡ true → (name : List ℕ) (class : NamedClass) (x : List ℕ) → o ≡ or_named o name class x
 no_class (Some c) e name class x = refl
