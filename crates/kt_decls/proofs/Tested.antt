@@ -39,6 +39,7 @@ are_plain_only_if (d ∷ ds) p = ap (λ b. if b then are_plain ds else false) (o
 
 pub tested : (b : Bool) (slice whole : List Declaration) → slice ≡ whole → b ≡ are_plain (map declaration_tree slice) → (IsTrue b → ArePlain (map declaration_tree whole)) × (ArePlain (map declaration_tree whole) → IsTrue b)
 tested b slice whole same is =
-    let e : b ≡ are_plain (map declaration_tree whole) = is ∙ ap (λ ds. are_plain (map declaration_tree ds)) same in
-    (λ t. are_plain_if (map declaration_tree whole) (subst IsTrue e t),
-      λ p. subst IsTrue (sym (e ∙ are_plain_only_if (map declaration_tree whole) p)) (search rules))
+    let e : b ≡ are_plain (map declaration_tree whole) = is ∙ ap (λ ds. are_plain (map declaration_tree ds)) same in (
+      λ t. are_plain_if (map declaration_tree whole) (subst IsTrue e t),
+      λ p. subst IsTrue (sym (e ∙ are_plain_only_if (map declaration_tree whole) p)) (search rules),
+    )

@@ -45,7 +45,8 @@ fn one_more(
     declared: &FunctionDeclaration,
 ) -> Result<(), FrontErr>
     ensures { (rest : List DeclarationTree) → Steps result
-        (judge (class_named classes.now) (is_taken taken.old) (map function_form done.old) (function (function_tree declared.now) ∷ rest))
+        (judge (class_named classes.now) (is_taken taken.old) (map function_form done.old)
+        (function (function_tree declared.now) ∷ rest))
         (judge (class_named classes.now) (is_taken taken.new) (map function_form done.new) rest) }
 {
     let answer = top_function(alloc, classes, taken, declared);

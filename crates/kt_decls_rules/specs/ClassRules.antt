@@ -109,7 +109,8 @@ above ds row f = inherited ds f.name (length f.parameters) row ++ members_of_any
 
 -- A function of a class. It is blamed for what its own header breaks.
 pub record IsFineMethod
-    (ds : List DeclarationTree) (row : ℕ) (scope : List DeclaredTypeParameter) (earlier : List Taken) (f : FunctionTree) :
+    (ds : List DeclarationTree) (row : ℕ) (scope : List DeclaredTypeParameter) (earlier : List Taken)
+    (f : FunctionTree) :
     Type 0 where
   pub free : are_free earlier (taken_by_function f ∷ []) ≡ true
   pub distinct_parameters : are_distinct (map (λ p. p.name) f.parameters) ≡ true
@@ -123,7 +124,8 @@ pub record IsFineMethod
 
 -- A property of a class body.
 pub record IsFineProperty
-    (ds : List DeclarationTree) (row : ℕ) (scope : List DeclaredTypeParameter) (earlier : List Taken) (p : PropertyTree) :
+    (ds : List DeclarationTree) (row : ℕ) (scope : List DeclaredTypeParameter) (earlier : List Taken)
+    (p : PropertyTree) :
     Type 0 where
   pub free : are_free earlier (Taken.a_value p.name ∷ []) ≡ true
   pub type_meant : AreMeant ds scope (p.annotation ∷ [])

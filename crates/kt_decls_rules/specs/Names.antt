@@ -79,4 +79,5 @@ are_distinct xs = are_apart none_taken (map a_value xs)
 -- without a receiver, or of the class that has the functions of a file
 abbrev pub is_reserved : List ℕ → Bool
 is_reserved x =
-    is_some (type_of_name x) || is_some (throwable_of_name x) || is_some (function_of_name x) || is_name x (codes "MainKt")
+    is_some (type_of_name x) || is_some (throwable_of_name x) || is_some (function_of_name x)
+    || is_name x (codes "MainKt")

@@ -115,7 +115,8 @@ pub record IsFineDeclaration (ds before : List DeclarationTree) (d : Declaration
 abbrev pub is_main : FunctionTree → Bool
 is_main f = is_name f.name (codes "main") && length f.parameters == 0
 
-pub record IsFineFunction (ds : List DeclarationTree) (scope : List DeclaredTypeParameter) (f : FunctionTree) : Type 0 where
+pub record IsFineFunction (ds : List DeclarationTree) (scope : List DeclaredTypeParameter) (f : FunctionTree) :
+    Type 0 where
   pub no_override : f.modifiers.is_override ≡ false
   pub not_open : f.modifiers.is_open ≡ false
   pub not_abstract : f.modifiers.is_abstract ≡ false

@@ -85,4 +85,5 @@ header_if classes f fine = if fine then function_header classes f else None
 abbrev pub top_function : Classes → (Taken → Bool) → FunctionTree → Option FunctionForm
 top_function classes taken f =
     header_if classes f
-    (is_fine_name f.name (not (taken (taken_by_function f))) (are_distinct (map (λ p. p.name) f.parameters)) f.modifiers)
+    (is_fine_name f.name (not (taken (taken_by_function f))) (are_distinct (map (λ p. p.name) f.parameters))
+    f.modifiers)

@@ -11,7 +11,8 @@ use std::alloc::Global;
 
 /// Whether no two parameters have one name.
 pub fn are_distinct(alloc: Global, parameters: &[Parameter]) -> Result<bool, NoMemory>
-    ensures { IfOk result (λ apart. apart ≡ rules.are_distinct (map (λ p. p.name) (map typed_parameter_tree parameters.now))) }
+    ensures { IfOk result (λ apart.
+        apart ≡ rules.are_distinct (map (λ p. p.name) (map typed_parameter_tree parameters.now))) }
 {
     let mut taken = TakenNames::new(alloc);
     for parameter in parameters {

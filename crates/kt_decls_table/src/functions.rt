@@ -169,7 +169,8 @@ fn function_header(
     classes: &ClassNames,
     function: &FunctionDeclaration,
 ) -> Result<DeclaredFunction, Unresolved>
-    ensures { Answers function_form result (spec.function_header (class_named classes.now) (function_tree function.now)) }
+    ensures { Answers function_form result
+        (spec.function_header (class_named classes.now) (function_tree function.now)) }
 {
     let parameters = declared_parameters(alloc, classes, function.parameters.as_slice())?;
     let result_type = declared_result(alloc, classes, &function.result)?;
@@ -183,7 +184,8 @@ fn header_if(
     function: &FunctionDeclaration,
     fine: bool,
 ) -> Result<DeclaredFunction, Unresolved>
-    ensures { Answers function_form result (spec.header_if (class_named classes.now) (function_tree function.now) fine) }
+    ensures { Answers function_form result
+        (spec.header_if (class_named classes.now) (function_tree function.now) fine) }
 {
     if fine {
         function_header(alloc, classes, function)
@@ -213,7 +215,8 @@ pub fn top_function(
     ensures header { Answers function_form result
         (spec.top_function (class_named classes.now) (is_taken taken.old) (function_tree function.now)) }
     ensures names { OnOk result ((t : Taken) →
-        is_taken taken.new t ≡ rules.and_taken (is_taken taken.old) (rules.taken_by_function (function_tree function.now)) t) }
+        is_taken taken.new t
+        ≡ rules.and_taken (is_taken taken.old) (rules.taken_by_function (function_tree function.now)) t) }
 {
     let count = count_of(function.parameters.as_slice())?;
     let is_free = taken.take_function(&function.name, count)?;
