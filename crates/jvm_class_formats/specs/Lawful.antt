@@ -16,8 +16,8 @@ pub record Takes (es : List Entry) (s : Spot) (ps : List Piece) (t : Spot) : Typ
   pub total : s.total ≡ t.total
   pub rest_fits : IsBytes t.bytes
 
--- behind a pool of these entries, what is read is allowed and spelled so, and what is allowed is read from its spelling,
--- whatever follows, where its mentions may stand here
+-- Behind a pool of these entries, what is read is allowed and spelled so, and what is allowed is read from its
+-- spelling, whatever follows, where its mentions may stand here.
 pub record Lawful (es : List Entry) {A : Type 0} (f : Format A) : Type 0 where
   pub found : (s : Spot) (x : A × Spot) → IsBytes s.bytes → f.read s ≡ Ok x
       → f.allows x.0 × Takes es s (f.spell x.0) x.1

@@ -18,8 +18,8 @@ head = seq (the w32 magic) (λ m. seq (the w16 minor_version) (λ minor. the w16
 abbrev pub head_bytes : List ℕ
 head_bytes = pieces [] (head.spell (magic, (minor_version, major_version)))
 
--- The bytes are the class file of this class with this pool: the entries stand in the order of their first mention, each is
--- mentioned, and each keeps its rule; the class keeps the rules of its grammar.
+-- The bytes are the class file of this class with this pool: the entries stand in the order of their first mention,
+-- each is mentioned, and each keeps its rule; the class keeps the rules of its grammar.
 pub record IsClassFile (bytes : List ℕ) (es : List Entry) (c : Class) : Type 0 where
   pub behind : List ℕ
   pub entries : AreEntries es

@@ -130,7 +130,8 @@ module _ (es : List Entry) where
   }
 
   abbrev pub code_parts : Code → CodeParts
-  code_parts c = (c.max_stack, (c.max_locals, (length (spelling c.instructions), (c.instructions, (c.handlers, c.frames)))))
+  code_parts c =
+      (c.max_stack, (c.max_locals, (length (spelling c.instructions), (c.instructions, (c.handlers, c.frames)))))
 
   -- stack, local variables, the code behind its length, the exception table, and the frames
   abbrev pub code_body : Before → Format Code

@@ -7,7 +7,8 @@ pub fn class_is_lawful()
     ensures { ClassIsLawful }
 {}
 
-/// Bytes that are the class file of a class are read as the class: so they are refused only where they are that of none.
+/// Bytes that are the class file of a class are read as the class: so they are refused only where they are that of
+/// none.
 pub fn file_is_read()
     ensures { FileIsRead }
 {}

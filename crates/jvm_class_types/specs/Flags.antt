@@ -25,7 +25,8 @@ method_flags method.Abstract = acc_public + acc_abstract
 
 -- the flags whose number is n
 abbrev pub class_flags_of : ℕ → Option ClassFlags
-class_flags_of n = find (λ flags. n == class_flags flags) (class.Open ∷ class.Final ∷ class.Abstract ∷ class.Interface ∷ [])
+class_flags_of n = find (λ flags. n == class_flags flags)
+    (class.Open ∷ class.Final ∷ class.Abstract ∷ class.Interface ∷ [])
 
 abbrev pub field_flags_of : ℕ → Option FieldFlags
 field_flags_of n = find (λ flags. n == field_flags flags) (field.Variable ∷ field.Final ∷ [])

@@ -59,7 +59,8 @@ pub const ITEM_OBJECT: u8 = 7;
 /// The tag of the type of an object that *new* made, whose offset follows (§4.7.4).
 pub const ITEM_UNINITIALIZED: u8 = 8;
 
-/// The least tag of a frame with one type on the stack and the locals of the frame before, its delta in the tag (§4.7.4).
+/// The least tag of a frame with one type on the stack and the locals of the frame before, its delta in the tag
+/// (§4.7.4).
 pub const SAME_LOCALS_1_STACK_ITEM: u8 = 64;
 /// The tag of such a frame whose delta follows (§4.7.4).
 pub const SAME_LOCALS_1_STACK_ITEM_EXTENDED: u8 = 247;

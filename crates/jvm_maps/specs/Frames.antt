@@ -212,7 +212,8 @@ step_of b f = step (delta_of b.offset f.offset) f.locals f.stack
 -- a frame is read where its form is the first that fits, and its offset fits four bytes
 abbrev pub is_first : Before → Form → Bool
 is_first b f =
-    same_form (form_of b.locals (meaning b.locals f)) f && nat_lt (offset_of b.offset (meaning b.locals f).delta) (2 ^ 32)
+    same_form (form_of b.locals (meaning b.locals f)) f
+    && nat_lt (offset_of b.offset (meaning b.locals f).delta) (2 ^ 32)
 
 abbrev pub framed : Before → ℕ → Form × Spot → Result (Frame × Spot) ℕ
 framed b at x = if is_first b x.0 then Ok (frame_of b (meaning b.locals x.0), x.1) else Err at

@@ -1,3 +1,4 @@
+pub mod Starting
 pub mod DescriptorKinds
 pub mod Found
 pub mod Ordered

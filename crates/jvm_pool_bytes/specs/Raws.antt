@@ -70,6 +70,11 @@ same_raw (raw.InterfaceMethod i j) (raw.InterfaceMethod k l) = i == k && j == l
 same_raw (raw.NameAndType i j) (raw.NameAndType k l) = i == k && j == l
 same_raw _ _ = false
 
+-- the index at which each entry starts, where k is that of the first
+abbrev pub raw_starts : ℕ → List RawEntry → List ℕ
+raw_starts k [] = []
+raw_starts k (r ∷ rs) = k ∷ raw_starts (k + raw_size r) rs
+
 -- the entry that starts at an index, where k is the index of the first
 unfoldable pub raw_at : ℕ → List RawEntry → ℕ → Option RawEntry
 raw_at k [] i = None

@@ -2,6 +2,7 @@
 #![tactic(auto)]
 
 pub mod laws;
+pub mod lookups;
 pub mod raws;
 pub mod reading;
 pub mod tags;

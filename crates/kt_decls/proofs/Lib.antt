@@ -1,3 +1,6 @@
 mod PlainFiles
 mod WithinBounds
 mod PlainHeaders
+mod PlainWalk
+mod PlainAnswers
+mod Tested

@@ -1,19 +1,15 @@
 -- A file of functions alone has no classes of its own, and so no bounds that a type could break.
-use Rattle.std.specs.Prelude.{ℕ, zero, suc, Bool, true, false, List, [], ◌∷◌, ◌++◌, ◌+◌, ◌≡◌, ◌&&◌, ◌||◌, Option, Some, None, not, nat_lt, map, length, slice_get, refl, if◌then◌else◌}
+use Rattle.std.specs.Prelude.{ℕ, zero, suc, List, [], ◌∷◌, ◌++◌, ◌+◌, ◌≡◌, Some, map, length, slice_get, refl}
 use Rattle.std.specs.List.{flat_map}
-use Rattle.std.proofs.Common.{rules, ap, sym, ◌∙◌, subst, arith}
+use Rattle.std.proofs.Common.{ap, sym, ◌∙◌}
 use Rattle.kt_tree.specs.Types.{TypeTree}
 use Rattle.kt_tree.specs.Declarations.{DeclarationTree, function, class, interface, enum, constant, FunctionTree}
-use Rattle.kt_types_tree.specs.declared.types.TypeConstructor.{TypeConstructor}
-use Rattle.kt_types_tree.specs.declared.types.TypeConstructor.TheVariants as constructor
-use Rattle.kt_types_tree.specs.Types.{TypeForm, ShapeForm, TypeForms, typed, nothing, any, parameter, of, forms_end, form_then}
 use Rattle.kt_types_tree.specs.Hierarchy.{HeaderForm, HierarchyForm}
 use Rattle.kt_types_builtins.specs.declared.throwables.BuiltInThrowable.{BuiltInThrowable}
 use Rattle.kt_types_builtins.specs.Throwables.{throwables}
 use Rattle.kt_decls_types.specs.References.{resolved}
 use Rattle.kt_decls_table.specs.Functions.{Classes}
-use Rattle.kt_decls_rules.specs.Tables.{Row, class_entry, class_from, class_named, meant, scope_of, numbered, row_count, placed_from, placed, rows_of, rows, row_headers, throwable_row, hierarchy_of}
-use Rattle.kt_decls_rules.specs.Rules.{IsWithinBounds, IsShapeWithinBounds, AreWithinBounds, AreBelowBounds, IsBelowBound, bound_at, header_at}
+use Rattle.kt_decls_rules.specs.Tables.{Row, class_entry, class_from, class_named, meant, scope_of, numbered, row_count, placed_from, rows_of, rows, row_headers, throwable_row, hierarchy_of}
 use Rattle.kt_decls.specs.Judging.{no_classes, ArePlain}
 
 no_entries : (ds : List DeclarationTree) → ArePlain ds → flat_map class_entry ds ≡ []

@@ -1,23 +1,21 @@
 -- A function of a plain file has a header exactly where its rules hold.
-use Rattle.std.specs.Prelude.{ℕ, zero, suc, Bool, true, false, List, [], ◌∷◌, ◌++◌, ◌==◌, ◌≡◌, ◌&&◌, ◌||◌, Option, Some, None, not, map, length, codes, refl, if◌then◌else◌}
-use Rattle.std.specs.List.{flat_map, list_any}
-use Rattle.std.proofs.Common.{rules, ap, sym, ◌∙◌, subst, arith}
+use Rattle.std.specs.Prelude.{Bool, true, false, List, [], ◌≡◌, ◌&&◌, ◌||◌, Option, Some, None, not, map, length, refl, if◌then◌else◌}
+use Rattle.std.specs.List.{flat_map}
+use Rattle.std.proofs.Common.{ap, sym, ◌∙◌, subst}
 use Rattle.kt_tree.specs.declared.declarations.FunctionModifiers.{FunctionModifiers}
 use Rattle.kt_tree.specs.Types.{TypeTree}
-use Rattle.kt_tree.specs.Declarations.{DeclarationTree, function, FunctionTree, TypedParameterTree}
+use Rattle.kt_tree.specs.Declarations.{DeclarationTree, function, FunctionTree}
 use Rattle.kt_types_tree.specs.declared.types.TypeConstructor.TheVariants as constructor
 use Rattle.kt_types_tree.specs.Types.{TypeForm, typed, nothing, any, parameter, of, forms_end, form_then}
-use Rattle.kt_typed.specs.declared.headers.DeclaredTypeParameter.{DeclaredTypeParameter}
-use Rattle.kt_typed.specs.Headers.{ParameterForm, FunctionForm}
-use Rattle.kt_decls_types.specs.References.{resolved, then_on}
+use Rattle.kt_typed.specs.Headers.{FunctionForm}
+use Rattle.kt_decls_types.specs.References.{then_on}
 use Rattle.kt_decls_table.specs.Functions.{parameters_meant, result_meant, is_unit, is_main, are_plain, fits_main, is_fine_name, form_of, with_types, function_header, header_if, top_function}
 use Rattle.kt_decls_rules.specs.Names.{Taken, taken_by, taken_by_function, clash_with_any, are_free, are_distinct, is_reserved}
 use Rattle.kt_decls_rules.specs.Tables.{meant, hierarchy_of, scope_of, row_count}
 use Rattle.kt_decls_rules.specs.Members.{unit_type}
 use Rattle.kt_decls_rules.specs.Members as members
-use Rattle.kt_decls_rules.specs.Rules as rule
-use Rattle.kt_decls_rules.specs.Rules.{AreMeant, written, types_of_function, bounds_written, DoBoundsEnd, IsFineDeclaration, IsFineFunction}
-use Rattle.kt_decls_rules.specs.Headers.{Header, top, IsFine}
+use Rattle.kt_decls_rules.specs.Rules.{AreMeant, written, types_of_function, bounds_written, DoBoundsEnd}
+use Rattle.kt_decls_rules.specs.Headers.{top, IsFine}
 use Rattle.kt_decls.specs.Judging.{no_classes, ArePlain}
 use Rattle.kt_decls.proofs.PlainFiles.{meant_plainly, no_scope}
 use Rattle.kt_decls.proofs.WithinBounds.{went_on, parameters_if, parameters_only_if, result_if, result_only_if, both_meant, first_meant, second_meant}

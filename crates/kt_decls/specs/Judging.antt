@@ -1,18 +1,17 @@
 -- The functions of a file, one behind the other: their headers, or where one isn't well formed.
-use Rattle.std.specs.Prelude.{ℕ, Bool, true, false, List, [], ◌∷◌, ◌++◌, ◌≡◌, Option, Some, None, Result, Ok, Err, map}
+use Rattle.std.specs.Prelude.{true, false, Bool, List, [], ◌∷◌, ◌++◌, ◌≡◌, Option, Some, None, Result, Ok, Err, map, if◌then◌else◌}
 use Rattle.kt_base.specs.declared.refusals.Pos.{Pos}
 use Rattle.kt_base.specs.declared.refusals.FrontErr.{FrontErr}
 use Rattle.kt_base.specs.declared.refusals.FrontErr.TheVariants as why
 use Rattle.kt_base.specs.declared.refusals.Kind.TheVariants.{Typing}
-use Rattle.kt_tree.specs.Declarations.{DeclarationTree, function, class, interface, enum, constant, FunctionTree}
+use Rattle.kt_tree.specs.Declarations.{DeclarationTree, function, class, interface, enum, constant}
 use Rattle.kt_typed.specs.declared.headers.DeclaredFunction.{DeclaredFunction}
 use Rattle.kt_typed.specs.Headers.{FunctionForm, function_form}
-use Rattle.kt_decls_types.specs.declared.scopes.NamedClass.{NamedClass}
 use Rattle.kt_decls_types.specs.declared.scopes.Unresolved.{Unresolved}
 use Rattle.kt_decls_types.specs.declared.scopes.Unresolved.TheVariants as unresolved
-use Rattle.kt_decls_rules.specs.Names.{Taken, and_taken, none_taken, taken_by_function}
+use Rattle.kt_decls_rules.specs.Headers.{AreRefusedAt}
+use Rattle.kt_decls_rules.specs.Names.{Taken, and_taken, taken_by_function}
 use Rattle.kt_decls_table.specs.Functions.{Classes, top_function}
-use Rattle.sqlite_items.specs.declared.items.Items.{Items}
 
 pub data Verdict : Type 0 where
   fine : List FunctionForm → Verdict
@@ -65,6 +64,26 @@ IsPlain (interface i) = ⊥
 IsPlain (enum e) = ⊥
 IsPlain (constant c) = ⊥
 
+abbrev pub has_none : {A : Type 0} → List A → Bool
+has_none [] = true
+has_none (x ∷ xs) = false
+
+abbrev pub is_plain : DeclarationTree → Bool
+is_plain (function f) = has_none f.type_parameters
+is_plain (class c) = false
+is_plain (interface i) = false
+is_plain (enum e) = false
+is_plain (constant c) = false
+
+abbrev pub are_plain : List DeclarationTree → Bool
+are_plain [] = true
+are_plain (d ∷ ds) = if is_plain d then are_plain ds else false
+
 abbrev pub ArePlain : List DeclarationTree → Type 0
 ArePlain [] = Unit {0}
 ArePlain (d ∷ ds) = IsPlain d × ArePlain ds
+
+-- an answer that is no result: the place at which the headers are refused, or want of memory
+abbrev pub IsRefusal : List DeclarationTree → FrontErr → Type 0
+IsRefusal ds (why.Refused r) = AreRefusedAt ds r.pos × (r.kind ≡ Typing)
+IsRefusal ds why.NoMemory = Unit {0}

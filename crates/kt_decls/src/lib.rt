@@ -2,3 +2,5 @@
 #![tactic(auto)]
 
 pub mod declaring;
+
+pub use declaring::{are_plain, declare_functions};

@@ -1,1 +1,4 @@
 pub mod Sums
+pub mod Parts
+pub mod Products
+pub mod Examples

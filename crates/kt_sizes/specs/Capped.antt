@@ -6,7 +6,7 @@ use Rattle.kt_sizes.specs.Counting.{◌&◌}
 abbrev pub cap : ℕ → ℕ
 cap n = min n 18446744073709551615
 
-abbrev pub capped : Sizes → Sizes
+unfoldable pub capped : Sizes → Sizes
 capped s =
     record {
       nodes = cap s.nodes;

@@ -1,6 +1,6 @@
 -- What a body counts for: the sum of what its nodes count for. An operand is counted with the operands that wait while
 -- it is evaluated.
-use Rattle.std.specs.Prelude.{ℕ, zero, suc, ◌+◌, max, Bool, true, false, List, length, Option, Some, None}
+use Rattle.std.specs.Prelude.{ℕ, zero, suc, ◌+◌, max, Bool, true, false, length, Option, Some, None}
 use Rattle.kt_typed.specs.declared.operators.TypedOperator.{TypedOperator}
 use Rattle.kt_typed.specs.declared.operators.TypedOperator.TheVariants as operator
 use Rattle.kt_typed.specs.Bodies.{ExpressionForm, literal, template, local, captured, this, constant, enum_entry, property, prefix, binary, type_test, cast, not_null, index, call, if_else, when, try_catch, throw, return, break, continue, lambda}
@@ -15,9 +15,8 @@ abbrev pub nothing : Sizes
 nothing = record { nodes = 0; heavy = 0; captured = 0; points = 0; kept = 0; depth = 0 }
 
 -- two parts of a body
-infixl 20 ◌&◌
-abbrev pub ◌&◌ : Sizes → Sizes → Sizes
-a & b =
+unfoldable pub both : Sizes → Sizes → Sizes
+both a b =
     record {
       nodes = a.nodes + b.nodes;
       heavy = a.heavy + b.heavy;
@@ -26,6 +25,10 @@ a & b =
       kept = a.kept + b.kept;
       depth = max a.depth b.depth;
     }
+
+infixl 20 ◌&◌
+abbrev pub ◌&◌ : Sizes → Sizes → Sizes
+◌&◌ = both
 
 -- What one node counts for.
 
@@ -64,7 +67,7 @@ deeper waiting zero = zero
 deeper waiting (suc n) = suc n + waiting
 
 -- a part that is evaluated while so many operands wait
-abbrev pub behind : ℕ → Sizes → Sizes
+unfoldable pub behind : ℕ → Sizes → Sizes
 behind waiting s = record s { depth = deeper waiting s.depth }
 
 -- `||`, `&&` and `?:` are done with the left side before the right one is evaluated

@@ -24,6 +24,7 @@ pub struct Sizes {
 
 impl Sizes {
     /// What counts for nothing.
+    #[tactic(auto, unfolding(crate::specs::Capped::capped))]
     pub fn nothing() -> Sizes
         ensures { result ≡ capped spec.nothing }
     {
@@ -38,6 +39,7 @@ impl Sizes {
     }
 
     /// A node.
+    #[tactic(auto, unfolding(crate::specs::Capped::capped))]
     pub fn node() -> Sizes
         ensures { result ≡ capped spec.node }
     {
@@ -48,6 +50,7 @@ impl Sizes {
     }
 
     /// A `while`, a `do`, a `catch`.
+    #[tactic(auto, unfolding(crate::specs::Capped::capped))]
     pub fn heavy_node() -> Sizes
         ensures { result ≡ capped spec.heavy_node }
     {
@@ -58,6 +61,7 @@ impl Sizes {
     }
 
     /// A `for`, which keeps its bound.
+    #[tactic(auto, unfolding(crate::specs::Capped::capped))]
     pub fn for_node() -> Sizes
         ensures { result ≡ capped spec.for_node }
     {
@@ -69,6 +73,7 @@ impl Sizes {
     }
 
     /// A `when`, which keeps its subject.
+    #[tactic(auto, unfolding(crate::specs::Capped::capped))]
     pub fn when_node() -> Sizes
         ensures { result ≡ capped spec.when_node }
     {
@@ -79,6 +84,7 @@ impl Sizes {
     }
 
     /// A `try`, which keeps what its `finally` goes on with.
+    #[tactic(auto, unfolding(crate::specs::Capped::capped))]
     pub fn try_node() -> Sizes
         ensures { result ≡ capped spec.try_node }
     {
@@ -90,6 +96,7 @@ impl Sizes {
     }
 
     /// A lambda literal with so many captures.
+    #[tactic(auto, unfolding(crate::specs::Capped::capped))]
     pub fn lambda_node(captures: u64) -> Sizes
         ensures { result ≡ capped (spec.lambda_node captures) }
     {
@@ -100,6 +107,7 @@ impl Sizes {
     }
 
     /// A suspension point, where it is one.
+    #[tactic(auto, unfolding(crate::specs::Capped::capped))]
     pub fn point_if(suspends: bool) -> Sizes
         ensures { result ≡ capped (spec.point_if suspends) }
     {
@@ -115,6 +123,7 @@ impl Sizes {
     }
 
     /// Two parts together.
+    #[tactic(auto, unfolding(crate::specs::Capped::capped, crate::specs::Counting::both))]
     pub fn beside(self, other: Sizes) -> Sizes
         ensures { (a b : Sizes) → self ≡ capped a → other ≡ capped b → result ≡ capped (a & b) }
     {
@@ -129,6 +138,7 @@ impl Sizes {
     }
 
     /// The part, evaluated while so many operands wait.
+    #[tactic(auto, unfolding(crate::specs::Capped::capped, crate::specs::Counting::behind))]
     pub fn behind(self, waiting: u64) -> Sizes
         ensures { (a : Sizes) (w : ℕ) → self ≡ capped a → waiting ≡ cap w → result ≡ capped (spec.behind w a) }
     {

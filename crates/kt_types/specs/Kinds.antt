@@ -81,7 +81,8 @@ constructor_shareable h plain constructor.Unit arguments = true
 constructor_shareable h plain constructor.IntArray arguments = false
 constructor_shareable h plain constructor.Array arguments = false
 constructor_shareable h plain constructor.Continuation arguments = arguments
-constructor_shareable h plain (constructor.Class c) arguments = passes class_is_enum (slice_get h.classes c) || (flag plain c && arguments)
+constructor_shareable h plain (constructor.Class c) arguments =
+    passes class_is_enum (slice_get h.classes c) || (flag plain c && arguments)
 constructor_shareable h plain (constructor.Function s) arguments = false
 
 -- where the flags say which classes are plain and which type parameters, by the rows of their bounds, count as shareable
@@ -97,4 +98,5 @@ abbrev mutual
 
   pub all_shareable : HierarchyForm → List Bool → List Bool → TypeForms → Bool
   all_shareable h plain parameters forms_end = true
-  all_shareable h plain parameters (form_then t ts) = shareable h plain parameters t && all_shareable h plain parameters ts
+  all_shareable h plain parameters (form_then t ts) =
+      shareable h plain parameters t && all_shareable h plain parameters ts

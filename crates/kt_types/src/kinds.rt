@@ -191,7 +191,8 @@ pub fn is_shareable(h: &Hierarchy, plain: &[bool], parameters: &[bool], t: &KtTy
 /// The same of each of several types.
 #[cycle(sharing)]
 fn are_shareable(h: &Hierarchy, plain: &[bool], parameters: &[bool], all: &[KtType]) -> bool
-    ensures { result ≡ all_shareable (hierarchy_form h.now) plain.now parameters.now (forms_of (map type_form all.now)) }
+    ensures { result ≡ all_shareable (hierarchy_form h.now) plain.now parameters.now
+        (forms_of (map type_form all.now)) }
 {
     for t in all {
         if !is_shareable(h, plain, parameters, t) {

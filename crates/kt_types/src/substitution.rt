@@ -17,7 +17,8 @@ fn argument_of(
     place: u32,
     arguments: &[KtType],
 ) -> Result<KtType, NoMemory>
-    ensures { IfOk result (λ t. type_form t ≡ substituted (forms_of (map type_form arguments.now)) (typed nullable (parameter row place))) }
+    ensures { IfOk result (λ t. type_form t
+        ≡ substituted (forms_of (map type_form arguments.now)) (typed nullable (parameter row place))) }
 {
     match at(arguments, place as usize) {
         Some(argument) => copy_or_null(alloc, nullable, argument),
@@ -48,7 +49,9 @@ fn substitute_of(
     all: &[KtType],
     arguments: &[KtType],
 ) -> Result<KtType, NoMemory>
-    ensures { IfOk result (λ r. type_form r ≡ substituted (forms_of (map type_form arguments.now)) (typed nullable (of constructor (forms_of (map type_form all.now))))) }
+    ensures { IfOk result (λ r. type_form r
+        ≡ substituted (forms_of (map type_form arguments.now))
+        (typed nullable (of constructor (forms_of (map type_form all.now))))) }
 {
     let all = substitute_all(alloc, all, arguments)?;
     Ok(KtType::of(nullable, constructor, all))
@@ -61,7 +64,8 @@ pub fn substitute_all(
     all: &[KtType],
     arguments: &[KtType],
 ) -> Result<Items<KtType>, NoMemory>
-    ensures { IfOk result (λ r. map type_form r ≡ map (λ t. substituted (forms_of (map type_form arguments.now)) (type_form t)) all.now) }
+    ensures { IfOk result (λ r. map type_form r
+        ≡ map (λ t. substituted (forms_of (map type_form arguments.now)) (type_form t)) all.now) }
 {
     let mut done = Items::new(alloc);
     for t in all {

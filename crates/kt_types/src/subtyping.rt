@@ -49,7 +49,9 @@ fn is_constructed_below(
     others: &[KtType],
 ) -> bool
     requires classes { ClassesEnd (hierarchy_form h.now) }
-    ensures { IsTrue result ↔ IsUnder (hierarchy_form h.now) false (of constructor (forms_of (map type_form arguments.now))) false (of other (forms_of (map type_form others.now))) }
+    ensures { IsTrue result ↔ IsUnder (hierarchy_form h.now) false
+        (of constructor (forms_of (map type_form arguments.now))) false
+        (of other (forms_of (map type_form others.now))) }
 {
     match class_of(constructor) {
         None => is_same_constructor(constructor, other) && are_same(arguments, others),
@@ -70,7 +72,8 @@ fn is_of_below(
     b: &TypeShape,
 ) -> bool
     requires classes { ClassesEnd (hierarchy_form h.now) }
-    ensures { IsTrue result ↔ IsUnder (hierarchy_form h.now) nullable (of constructor (forms_of (map type_form arguments.now))) may (shape_form b.now) }
+    ensures { IsTrue result ↔ IsUnder (hierarchy_form h.now) nullable
+        (of constructor (forms_of (map type_form arguments.now))) may (shape_form b.now) }
 {
     if !allows(nullable, may) {
         return false;
@@ -132,7 +135,8 @@ fn is_shape_below(
     b: &TypeShape,
 ) -> bool
     requires classes { ClassesEnd (hierarchy_form h.now) }
-    ensures { IsTrue result ↔ IsUnderIn (hierarchy_form h.now) steps nullable (shape_form a.now) may (shape_form b.now) }
+    ensures { IsTrue result ↔ IsUnderIn (hierarchy_form h.now) steps nullable (shape_form a.now) may
+        (shape_form b.now) }
 {
     match a {
         TypeShape::Nothing => allows(nullable, may),
@@ -158,7 +162,8 @@ fn is_parameter_below(
     b: &TypeShape,
 ) -> bool
     requires classes { ClassesEnd (hierarchy_form h.now) }
-    ensures { IsTrue result ↔ IsUnderIn (hierarchy_form h.now) steps nullable (parameter row place) may (shape_form b.now) }
+    ensures { IsTrue result ↔ IsUnderIn (hierarchy_form h.now) steps nullable (parameter row place) may
+        (shape_form b.now) }
 {
     if is_at_once(nullable, row, place, may, b) {
         return true;
@@ -182,7 +187,8 @@ fn is_parameter_below(
 /// Whether a shape is a subtype of another, each with `?` or without.
 fn is_shape_subtype(h: &Hierarchy, nullable: bool, a: &TypeShape, may: bool, b: &TypeShape) -> bool
     requires classes { ClassesEnd (hierarchy_form h.now) }
-    ensures { IsTrue result ↔ IsBelow (hierarchy_form h.now) (typed nullable (shape_form a.now)) (typed may (shape_form b.now)) }
+    ensures { IsTrue result ↔ IsBelow (hierarchy_form h.now) (typed nullable (shape_form a.now))
+        (typed may (shape_form b.now)) }
 {
     is_shape_below(h, h.bounds.len(), nullable, a, may, b)
 }
@@ -227,7 +233,8 @@ pub fn without_null(alloc: Global, h: &Hierarchy, t: &KtType) -> Result<KtType, 
 pub fn join<'a>(h: &Hierarchy, a: &'a KtType, b: &'a KtType) -> Option<&'a KtType>
     requires classes { ClassesEnd (hierarchy_form h.now) }
     ensures { MatchOption result
-        ((IsBelow (hierarchy_form h.now) (type_form a.now) (type_form b.now) → ⊥) × (IsBelow (hierarchy_form h.now) (type_form b.now) (type_form a.now) → ⊥))
+        ((IsBelow (hierarchy_form h.now) (type_form a.now) (type_form b.now) → ⊥)
+        × (IsBelow (hierarchy_form h.now) (type_form b.now) (type_form a.now) → ⊥))
         (λ t. IsJoin (hierarchy_form h.now) (type_form a.now) (type_form b.now) (type_form t.now)) }
 {
     if is_subtype(h, a, b) {

@@ -12,7 +12,8 @@ function_name function.IntArray = codes "IntArray"
 function_name function.ArrayOfNulls = codes "arrayOfNulls"
 
 unfoldable pub functions : List BuiltInFunction
-functions = function.Println ∷ function.Launch ∷ function.SuspendCoroutine ∷ function.IntArray ∷ function.ArrayOfNulls ∷ []
+functions =
+    function.Println ∷ function.Launch ∷ function.SuspendCoroutine ∷ function.IntArray ∷ function.ArrayOfNulls ∷ []
 
 -- the function that is written so
 unfoldable pub function_of_name : List ℕ → Option BuiltInFunction

@@ -36,7 +36,8 @@ member_row member.LongToInt = row on.Long (codes "toInt") (Some []) type.Int
 member_row member.LongInverse = row on.Long (codes "inv") (Some []) type.Long
 member_row member.CharCode = row on.Char (codes "code") None type.Int
 member_row member.Resume = row on.Continuation (codes "resume") (Some (type.Argument ∷ [])) type.Unit
-member_row member.ResumeWithException = row on.Continuation (codes "resumeWithException") (Some (type.Throwable ∷ [])) type.Unit
+member_row member.ResumeWithException =
+    row on.Continuation (codes "resumeWithException") (Some (type.Throwable ∷ [])) type.Unit
 member_row member.EntryName = row on.Enum (codes "name") None type.String
 member_row member.EntryOrdinal = row on.Enum (codes "ordinal") None type.Int
 member_row member.Message = row on.Throwable (codes "message") None type.NullableString

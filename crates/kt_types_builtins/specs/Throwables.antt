@@ -52,7 +52,8 @@ unfoldable pub throwables : List BuiltInThrowable
 throwables = throwable.Throwable ∷ throwable.Exception ∷ throwable.RuntimeException
     ∷ throwable.IllegalStateException ∷ throwable.IllegalArgumentException ∷ throwable.ArithmeticException
     ∷ throwable.NullPointerException ∷ throwable.ClassCastException ∷ throwable.NegativeArraySizeException
-    ∷ throwable.IndexOutOfBoundsException ∷ throwable.ArrayIndexOutOfBoundsException ∷ throwable.StringIndexOutOfBoundsException ∷ []
+    ∷ throwable.IndexOutOfBoundsException ∷ throwable.ArrayIndexOutOfBoundsException
+    ∷ throwable.StringIndexOutOfBoundsException ∷ []
 
 -- the throwable that is written so
 unfoldable pub throwable_of_name : List ℕ → Option BuiltInThrowable

@@ -37,7 +37,7 @@ module _ (g : Graph) where
   all_below zero c w q h = cc
   all_below (suc n) c w q h = below_rest q c (places n w.0 w.1.1) (there c w.0 w.1.0) (all_below n w.0 w.1.1 q) h
 
-  further_up : {c d : ℕ} (e : ℕ) → Reaches g c d → Leads g d e → Reaches g c e
+  pub further_up : {c d : ℕ} (e : ℕ) → Reaches g c d → Leads g d e → Reaches g c e
   further_up e (at_once l) m = further l (at_once m)
   further_up e (further l r) m = further l (further_up e r m)
 

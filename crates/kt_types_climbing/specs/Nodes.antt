@@ -32,7 +32,8 @@ ahead_nodes (These' all e p later) = map (in_layers (layers e.now)) all.now ++ a
 
 abbrev pub behind_nodes : Behind → List Node
 behind_nodes Nobody = []
-behind_nodes (Met' c all e p earlier) = node c (read_all (layers e.now) (forms_of (map type_form all.now))) ∷ behind_nodes earlier
+behind_nodes (Met' c all e p earlier) =
+    node c (read_all (layers e.now) (forms_of (map type_form all.now))) ∷ behind_nodes earlier
 
 abbrev pub Among : Node → List Node → Type 0
 Among n [] = ⊥
@@ -51,7 +52,9 @@ abbrev pub IsClosed : HierarchyForm → List Node → List Node → Node → Typ
 IsClosed h behind ahead t =
     (v : Node) →
     Among v behind →
-    (v ≡ t → ⊥) × ((s : SuperForm) → HasSuper h v.class s → Among (above v.arguments s) behind ⊎ Among (above v.arguments s) ahead)
+    (v ≡ t → ⊥)
+    × ((s : SuperForm) → HasSuper h v.class s →
+    Among (above v.arguments s) behind ⊎ Among (above v.arguments s) ahead)
 
 -- how much is ahead
 abbrev pub ahead_weight : Graph → Ahead → ℕ

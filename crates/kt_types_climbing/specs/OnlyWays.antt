@@ -10,7 +10,8 @@ LeadsNowhere h c wanted = (all others : TypeForms) → Climbs h c all wanted oth
 
 -- nor above one of several supertypes but that at a place
 abbrev pub NowhereBut : HierarchyForm → List SuperForm → ℕ → ℕ → Type 0
-NowhereBut h ss k wanted = (i : ℕ) (s : SuperForm) → slice_get ss i ≡ Some s → (i ≡ k → ⊥) → LeadsNowhere h s.class wanted
+NowhereBut h ss k wanted =
+    (i : ℕ) (s : SuperForm) → slice_get ss i ≡ Some s → (i ≡ k → ⊥) → LeadsNowhere h s.class wanted
 
 -- from two classes without arguments the same is found of the wanted class
 abbrev pub LeadsSame : HierarchyForm → ℕ → ℕ → ℕ → Type 0

@@ -34,8 +34,10 @@ fn climbs_from(
     others: &[KtType],
 ) -> bool
     requires classes { ClassesEnd (hierarchy_form h.now) }
-    requires closed { IsClosed (hierarchy_form h.now) (behind_nodes behind.now) (ahead_nodes ahead.now) (node wanted (forms_of (map type_form others.now))) }
-    ensures { IsTrue result ↔ AnyClimbs (hierarchy_form h.now) (ahead_nodes ahead.now) (node wanted (forms_of (map type_form others.now))) }
+    requires closed { IsClosed (hierarchy_form h.now) (behind_nodes behind.now) (ahead_nodes ahead.now)
+        (node wanted (forms_of (map type_form others.now))) }
+    ensures { IsTrue result ↔ AnyClimbs (hierarchy_form h.now) (ahead_nodes ahead.now)
+        (node wanted (forms_of (map type_form others.now))) }
 {
     match ahead {
         Ahead::Nothing => false,
@@ -61,8 +63,12 @@ fn climbs_by(
     others: &[KtType],
 ) -> bool
     requires classes { ClassesEnd (hierarchy_form h.now) }
-    requires closed { IsClosed (hierarchy_form h.now) (behind_nodes behind.now) (in_layers (layers environment.now) first.now ∷ ahead_nodes rest.now) (node wanted (forms_of (map type_form others.now))) }
-    ensures { IsTrue result ↔ AnyClimbs (hierarchy_form h.now) (in_layers (layers environment.now) first.now ∷ ahead_nodes rest.now) (node wanted (forms_of (map type_form others.now))) }
+    requires closed { IsClosed (hierarchy_form h.now) (behind_nodes behind.now)
+        (in_layers (layers environment.now) first.now ∷ ahead_nodes rest.now)
+        (node wanted (forms_of (map type_form others.now))) }
+    ensures { IsTrue result ↔ AnyClimbs (hierarchy_form h.now)
+        (in_layers (layers environment.now) first.now ∷ ahead_nodes rest.now)
+        (node wanted (forms_of (map type_form others.now))) }
 {
     let arguments = first.arguments.as_slice();
     if is_one(
@@ -97,7 +103,8 @@ fn climbs_at(
     others: &[KtType],
 ) -> bool
     requires classes { ClassesEnd (hierarchy_form h.now) }
-    ensures { IsTrue result ↔ Climbs (hierarchy_form h.now) class (forms_of (map type_form arguments.now)) wanted (forms_of (map type_form others.now)) }
+    ensures { IsTrue result ↔ Climbs (hierarchy_form h.now) class (forms_of (map type_form arguments.now)) wanted
+        (forms_of (map type_form others.now)) }
 {
     let top = Environment::Top;
     if is_one(class, arguments, &top, wanted, others, &top) {
@@ -120,7 +127,8 @@ pub fn climbs(
     others: &[KtType],
 ) -> bool
     requires classes { ClassesEnd (hierarchy_form h.now) }
-    ensures { IsTrue result ↔ Climbs (hierarchy_form h.now) class (forms_of (map type_form arguments.now)) wanted (forms_of (map type_form others.now)) }
+    ensures { IsTrue result ↔ Climbs (hierarchy_form h.now) class (forms_of (map type_form arguments.now)) wanted
+        (forms_of (map type_form others.now)) }
 {
     match arguments {
         [] => climbs_at(h, straight_up(h, class, wanted), arguments, wanted, others),

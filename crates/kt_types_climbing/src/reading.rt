@@ -99,7 +99,8 @@ pub fn are_read_alike(
     others: &[KtType],
     other_environment: &Environment,
 ) -> bool
-    ensures { IsTrue result ↔ (read_all (layers environment.now) (forms_of (map type_form all.now)) ≡ read_all (layers other_environment.now) (forms_of (map type_form others.now))) }
+    ensures { IsTrue result ↔ (read_all (layers environment.now) (forms_of (map type_form all.now))
+        ≡ read_all (layers other_environment.now) (forms_of (map type_form others.now))) }
 {
     match all {
         [] => match others {

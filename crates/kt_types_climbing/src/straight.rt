@@ -22,7 +22,8 @@ fn leads_on(h: &Hierarchy, class: u32, wanted: u32) -> bool
 
 /// The place of the one supertype that leads on; none where there is no such one, or another beside it.
 fn only_place(h: &Hierarchy, supertypes: &[Supertype], wanted: u32) -> Option<usize>
-    ensures but { (k : ℕ) → result ≡ Some k → NowhereBut (hierarchy_form h.now) (map super_form supertypes.now) k wanted }
+    ensures but { (k : ℕ) → result ≡ Some k
+        → NowhereBut (hierarchy_form h.now) (map super_form supertypes.now) k wanted }
     ensures within { (k : ℕ) → result ≡ Some k → k < length supertypes.now }
 {
     let mut way = None;
@@ -52,7 +53,8 @@ fn plain_class(supertype: &Supertype) -> Option<u32>
 fn next_straight(h: &Hierarchy, class: u32, wanted: u32) -> Option<u32>
     requires classes { ClassesEnd (hierarchy_form h.now) }
     ensures onward { (c : ℕ) → result ≡ Some c → LeadsSame (hierarchy_form h.now) class c wanted }
-    ensures lower { (c : ℕ) → result ≡ Some c → weight (class_graph (hierarchy_form h.now)) c < weight (class_graph (hierarchy_form h.now)) class }
+    ensures lower { (c : ℕ) → result ≡ Some c
+        → weight (class_graph (hierarchy_form h.now)) c < weight (class_graph (hierarchy_form h.now)) class }
 {
     if class == wanted {
         return None;

@@ -38,14 +38,17 @@ pub fn is_one(
     others: &[KtType],
     other_environment: &Environment,
 ) -> bool
-    ensures { IsTrue result ↔ (node class (read_all (layers environment.now) (forms_of (map type_form arguments.now))) ≡ node other (read_all (layers other_environment.now) (forms_of (map type_form others.now)))) }
+    ensures { IsTrue result ↔ (node class (read_all (layers environment.now) (forms_of (map type_form arguments.now)))
+        ≡ node other (read_all (layers other_environment.now) (forms_of (map type_form others.now)))) }
 {
     class == other && are_read_alike(arguments, environment, others, other_environment)
 }
 
 /// Whether a class with its arguments was met.
 pub fn is_met(behind: &Behind, class: u32, arguments: &[KtType], environment: &Environment) -> bool
-    ensures { IsTrue result ↔ Among (node class (read_all (layers environment.now) (forms_of (map type_form arguments.now)))) (behind_nodes behind.now) }
+    ensures { IsTrue result ↔ Among
+        (node class (read_all (layers environment.now) (forms_of (map type_form arguments.now))))
+        (behind_nodes behind.now) }
 {
     match behind {
         Behind::Nobody => false,
@@ -72,7 +75,8 @@ pub fn ahead_of<'a>(
     later: &'a Ahead<'a>,
 ) -> Ahead<'a>
     ensures nodes { ahead_nodes result ≡ map (in_layers (layers environment.now)) rest.now ++ ahead_nodes later.now }
-    ensures weight { (g : Graph) → ahead_weight g result ≤ sum_of (weight g) (map (λ s. s.class) rest.now) + ahead_weight g later.now + 1 }
+    ensures weight { (g : Graph) → ahead_weight g result
+        ≤ sum_of (weight g) (map (λ s. s.class) rest.now) + ahead_weight g later.now + 1 }
 {
     match rest {
         [] => *later,

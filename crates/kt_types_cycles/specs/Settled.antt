@@ -41,7 +41,8 @@ abbrev pub IsOpenLink : List ℕ → List Bool → ℕ → Type 0
 IsOpenLink links done d = (i : ℕ) × ((slice_get links i ≡ Some d) × (slice_get done d ≡ Some false))
 
 -- how far the walk has come
-pub record IsSettling (g : Graph) (before : List Bool) (first : ℕ) (done : List Bool) (waiting : List ℕ) (c : ℕ) : Type 0 where
+pub record IsSettling (g : Graph) (before : List Bool) (first : ℕ) (done : List Bool) (waiting : List ℕ)
+    (c : ℕ) : Type 0 where
   pub settled : IsSettled g done
   pub kept : (d : ℕ) → IsDone before d → IsDone done d
   pub trail : IsTrail g waiting c

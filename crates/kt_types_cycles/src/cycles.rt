@@ -11,7 +11,8 @@ use kt_types_tree::Hierarchy;
 use sqlite_items::{Items, at};
 use std::alloc::Global;
 
-fn is_open(done: &[bool], row: usize) -> bool
+/// Whether a row is there and not marked.
+pub fn is_open(done: &[bool], row: usize) -> bool
     ensures { IsTrue result ↔ (slice_get done.now row ≡ Some false) }
 {
     match at(done, row) {
@@ -34,7 +35,8 @@ fn open_link(links: &[u32], done: &[bool]) -> Option<usize>
 
 /// The first row to which a row leads and that isn't done.
 fn open_link_of(graph: &[Items<u32>], row: usize, done: &[bool]) -> Option<usize>
-    ensures { MatchOption result (AreLinksDone (row_or_none (slice_get graph.now row)) done.now) (IsOpenLink (row_or_none (slice_get graph.now row)) done.now) }
+    ensures { MatchOption result (AreLinksDone (row_or_none (slice_get graph.now row)) done.now)
+        (IsOpenLink (row_or_none (slice_get graph.now row)) done.now) }
 {
     match at(graph, row) {
         None => None,

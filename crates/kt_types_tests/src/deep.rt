@@ -7,6 +7,7 @@ use crate::samples::{header, sample, supertype};
 use kt_base::NoMemory;
 use kt_types::subtyping::is_subtype;
 use kt_types_cycles::cycles::classes_end;
+use kt_types_cycles::search::first_on_cycle;
 use kt_types_tree::{ClassKind, Hierarchy, KtType, Supertype, TypeConstructor};
 use sqlite_items::Items;
 use std::alloc::Global;
@@ -156,6 +157,36 @@ fn circles(rt: HostRuntime) -> Result<(), Fail> {
     for classes in [1, 2, 3, 1000] {
         let h = circle(rt.alloc(), classes)?;
         assert!(&rt; !classes_end(rt.alloc(), &h)?, "{classes}");
+    }
+    Ok(())
+}
+
+/// Rows, to which each leads, and the first that leads back to itself.
+fn graphs() -> [(&'static [&'static [u32]], Option<usize>); 6] {
+    [
+        (&[], None),
+        (&[&[1, 2], &[2], &[]], None),
+        (&[&[1], &[2], &[1]], Some(1)),
+        (&[&[1, 2], &[3], &[3], &[4], &[3, 9]], Some(3)),
+        (&[&[], &[0, 1]], Some(1)),
+        (&[&[7]], None),
+    ]
+}
+
+fn graph_of(alloc: Global, rows: &[&'static [u32]]) -> Result<Items<Items<u32>>, NoMemory> {
+    let mut graph = Items::new(alloc);
+    for row in rows {
+        graph.push(Items::from_slice(alloc, *row)?)?;
+    }
+    Ok(graph)
+}
+
+#[test]
+fn first_rows_that_lead_back(rt: HostRuntime) -> Result<(), Fail> {
+    for (rows, wanted) in graphs() {
+        let graph = graph_of(rt.alloc(), rows)?;
+        let found = first_on_cycle(rt.alloc(), graph.as_slice())?;
+        assert!(&rt; found == wanted);
     }
     Ok(())
 }

@@ -1,4 +1,4 @@
-use Rattle.std.specs.Prelude.{ℕ, List, ◌≡◌, [], map, drop, None}
+use Rattle.std.specs.Prelude.{◌≡◌, [], map, drop}
 use Rattle.kt_tree.specs.Declarations.{declaration_tree}
 use Rattle.kt_typed.specs.Headers.{function_form}
 use Rattle.kt_decls_types.specs.Scopes.{class_named}

@@ -1,0 +1,175 @@
+//! Files of functions, and what their headers are answered.
+
+use crate::trees::file;
+use kt_base::FrontErr;
+use kt_decls::{are_plain, declare_functions};
+use std::alloc::Global;
+use std::test::Fail;
+
+/// What the headers of a file are answered.
+#[derive(Clone, Copy, Debug, PartialEq, Eq)]
+enum Answer {
+    /// They are well formed, so many functions.
+    Fine(usize),
+    /// They are refused at the function on this line.
+    Line(u32),
+    /// Another kind of answer, which no row expects.
+    Other,
+}
+
+fn told(alloc: Global, functions: &[&str]) -> Result<Answer, Fail> {
+    let tree = file(alloc, functions)?;
+    if !are_plain(&tree) {
+        return Ok(Answer::Other);
+    }
+    match declare_functions(alloc, &tree) {
+        Ok(headers) => Ok(Answer::Fine(headers.len())),
+        Err(FrontErr::Refused(refusal)) => Ok(Answer::Line(refusal.pos.line)),
+        Err(FrontErr::NoMemory) => Ok(Answer::Other),
+    }
+}
+
+/// Functions in letters, and the answer.
+type Row = (&'static [&'static str], Answer);
+
+/// Accepted.
+fn accepted() -> &'static [Row] {
+    &[
+        (&[], Answer::Fine(0)),
+        (&["mu"], Answer::Fine(1)),
+        (&["m."], Answer::Fine(1)),
+        (&["Sm."], Answer::Fine(1)),
+        (&["mP"], Answer::Fine(1)),
+        (&["maiu"], Answer::Fine(1)),
+        (&["maii"], Answer::Fine(1)),
+        (&["mu", "maii"], Answer::Fine(2)),
+        (&["gi", "gaii", "gaibii"], Answer::Fine(3)),
+        (&["gi", "hi", "mu"], Answer::Fine(3)),
+        (&["Sgi"], Answer::Fine(1)),
+        (&["gaiblgchb."], Answer::Fine(1)),
+        (&["gasbugnhamy."], Answer::Fine(1)),
+        (&["gaebIhUB"], Answer::Fine(1)),
+        (&["gaCbFhGB"], Answer::Fine(1)),
+        (&["gn"], Answer::Fine(1)),
+        (&["zu"], Answer::Fine(1)),
+        (&["ti"], Answer::Fine(1)),
+        (&["tai"], Answer::Fine(1)),
+        (&["ggi."], Answer::Fine(1)),
+        (&["gmi."], Answer::Fine(1)),
+        (&["gpi."], Answer::Fine(1)),
+        (&["gki."], Answer::Fine(1)),
+        (&["gii."], Answer::Fine(1)),
+        (&["gai", "hai"], Answer::Fine(2)),
+    ]
+}
+
+/// Refused for a name.
+fn names() -> &'static [Row] {
+    &[
+        (&["p."], Answer::Line(1)),
+        (&["pai."], Answer::Line(1)),
+        (&["l."], Answer::Line(1)),
+        (&["s."], Answer::Line(1)),
+        (&["q."], Answer::Line(1)),
+        (&["y."], Answer::Line(1)),
+        (&["i."], Answer::Line(1)),
+        (&["n."], Answer::Line(1)),
+        (&["c."], Answer::Line(1)),
+        (&["e."], Answer::Line(1)),
+        (&["x."], Answer::Line(1)),
+        (&["k."], Answer::Line(1)),
+        (&["g.", "k."], Answer::Line(2)),
+        (&["g.", "g."], Answer::Line(2)),
+        (&["g.", "h.", "g."], Answer::Line(3)),
+        (&["gai.", "gbs."], Answer::Line(2)),
+        (&["gai.", "g.", "gas."], Answer::Line(3)),
+        (&["g.", "g.", "k."], Answer::Line(2)),
+        (&["mu", "mu"], Answer::Line(2)),
+        (&["Sm.", "m."], Answer::Line(2)),
+        (&["gaiai."], Answer::Line(1)),
+        (&["gaibias."], Answer::Line(1)),
+        (&["h.", "gaibsbi."], Answer::Line(2)),
+    ]
+}
+
+/// Refused for a type.
+fn types() -> &'static [Row] {
+    &[
+        (&["gx"], Answer::Line(1)),
+        (&["gj"], Answer::Line(1)),
+        (&["gk"], Answer::Line(1)),
+        (&["gax."], Answer::Line(1)),
+        (&["gaibx."], Answer::Line(1)),
+        (&["gaz."], Answer::Line(1)),
+        (&["gz"], Answer::Line(1)),
+        (&["gad."], Answer::Line(1)),
+        (&["gA"], Answer::Line(1)),
+        (&["gaA."], Answer::Line(1)),
+        (&["gD"], Answer::Line(1)),
+        (&["gE"], Answer::Line(1)),
+        (&["gQ"], Answer::Line(1)),
+        (&["gN"], Answer::Line(1)),
+        (&["gH"], Answer::Line(1)),
+        (&["gaH."], Answer::Line(1)),
+        (&["g.", "hx"], Answer::Line(2)),
+        (&["gx", "gx"], Answer::Line(1)),
+        (&["g.", "gx", "hx"], Answer::Line(2)),
+    ]
+}
+
+/// Refused for a modifier, or for the result of `main`.
+fn others() -> &'static [Row] {
+    &[
+        (&["Rg."], Answer::Line(1)),
+        (&["Og."], Answer::Line(1)),
+        (&["Ag."], Answer::Line(1)),
+        (&["ROg."], Answer::Line(1)),
+        (&["SRg."], Answer::Line(1)),
+        (&["g.", "Oh."], Answer::Line(2)),
+        (&["mi"], Answer::Line(1)),
+        (&["Smi"], Answer::Line(1)),
+        (&["mU"], Answer::Line(1)),
+        (&["ma"], Answer::Line(1)),
+        (&["mn"], Answer::Line(1)),
+        (&["ms"], Answer::Line(1)),
+        (&["g.", "mi"], Answer::Line(2)),
+        (&["mi", "k."], Answer::Line(1)),
+        (&["mai.", "mi"], Answer::Line(2)),
+        (&["Rm."], Answer::Line(1)),
+    ]
+}
+
+fn is_as_told(alloc: Global, rows: &[Row]) -> Result<bool, Fail> {
+    for row in rows {
+        let (functions, expected) = *row;
+        if told(alloc, functions)? != expected {
+            return Ok(false);
+        }
+    }
+    Ok(true)
+}
+
+#[test]
+fn headers_are_accepted(rt: HostRuntime) -> Result<(), Fail> {
+    assert!(rt; is_as_told(rt.alloc(), accepted())?);
+    assert_eq!(rt; accepted().len(), 25);
+    Ok(())
+}
+
+#[test]
+fn names_are_refused(rt: HostRuntime) -> Result<(), Fail> {
+    assert!(rt; is_as_told(rt.alloc(), names())?);
+    Ok(())
+}
+
+#[test]
+fn types_are_refused(rt: HostRuntime) -> Result<(), Fail> {
+    assert!(rt; is_as_told(rt.alloc(), types())?);
+    Ok(())
+}
+
+#[test]
+fn other_headers_are_refused(rt: HostRuntime) -> Result<(), Fail> {
+    assert!(rt; is_as_told(rt.alloc(), others())?);
+    Ok(())
+}

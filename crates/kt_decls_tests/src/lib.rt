@@ -1,0 +1,9 @@
+//! Headers of files of functions: which are accepted, and at which function the others are refused.
+//!
+//! Expected answers are worked out from the rules of the language.
+#![tactic(auto)]
+
+#[cfg(test)]
+mod headers;
+#[cfg(test)]
+mod trees;
