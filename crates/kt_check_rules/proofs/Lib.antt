@@ -9,3 +9,4 @@ mod Placed
 mod Worked
 mod Examples
 mod Forms
+mod MoreForms
