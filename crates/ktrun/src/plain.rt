@@ -113,8 +113,8 @@ fn stopped<E: Sink>(alloc: Global, err: &mut E, status: u8, told: &str) -> Outco
 /// Writes what a run printed.
 fn deliver<O: Sink>(out: &mut O, run: Finished) -> Outcome
     ensures done { result.status ≡ done → Appends (O.taken out.old) (O.taken out.new) run.text.items }
-    ensures cannot_write { result.status ≡ cannot_write → AppendsPrefix (O.taken out.old) (O.taken out.new) run.text.items
-        × Rose (O.faults out.old) (O.faults out.new) }
+    ensures cannot_write { result.status ≡ cannot_write
+        → AppendsPrefix (O.taken out.old) (O.taken out.new) run.text.items × Rose (O.faults out.old) (O.faults out.new) }
     ensures no_fault { result.status ≢ cannot_write → O.faults out.new ≡ O.faults out.old }
     ensures only { (result.status ≡ done) ⊎ (result.status ≡ cannot_write) }
     ensures choices { result.choices.items ≡ run.choices.items }
