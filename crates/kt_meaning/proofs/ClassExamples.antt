@@ -21,7 +21,7 @@ use Rattle.kt_typed.specs.Bodies.{ExpressionForm, StatementForm, FunForm, expres
 use Rattle.kt_typed.specs.Headers.{ClassParameterForm}
 use Rattle.kt_typed.specs.Operators.{CaptureForm}
 use Rattle.kt_typed.specs.Units.{UnitForm, ClassBodies}
-use Rattle.kt_values.specs.Throwables.{throwable_names}
+use Rattle.kt_types_builtins.specs.Throwables.{throwables}
 use Rattle.kt_meaning.specs.Classes.{upwards, is_below_within}
 use Rattle.kt_meaning.specs.Units.{calls, direct}
 use Rattle.kt_meaning.proofs.Trees.{at, simple, int_type, text_type, unit_type, int, calculated, println, said, local_of, body, header, ends}
@@ -81,7 +81,7 @@ shapes =
 
 shapes_end : direct shapes 20 start.Main (answer.Done ∷ answer.Done ∷ []) ≡ ends
     (codes "4" ∷ codes "9" ∷ []) the_end.Returned
-unfolding calls digits upwards is_below_within throwable_names
+unfolding calls digits upwards is_below_within throwables
 shapes_end = refl
 
 -- enum class Color { RED, GREEN }; println(Color.GREEN); println(Color.RED == Color.GREEN);
@@ -110,7 +110,7 @@ colours =
 colours_end :
     direct colours 9 start.Main (answer.Done ∷ answer.Done ∷ answer.Done ∷ [])
     ≡ ends (codes "GREEN" ∷ codes "false" ∷ codes "1" ∷ []) the_end.Returned
-unfolding calls digits upwards is_below_within throwable_names
+unfolding calls digits upwards is_below_within throwables
 colours_end = refl
 
 -- open class A(val x: Int) { val y: Int = x + 1 }; class B : A(5) { val z: Int = y + 1; override fun toString():
@@ -133,7 +133,7 @@ ordered =
     ∷ [])
 
 ordered_ends : direct ordered 20 start.Main (answer.Done ∷ []) ≡ ends (codes "B7!" ∷ []) the_end.Returned
-unfolding calls digits upwards is_below_within throwable_names
+unfolding calls digits upwards is_below_within throwables
 ordered_ends = refl
 
 -- class C(var n: Int) { fun f(): () -> Unit { return { n += 2 } } }; val c = C(1); c.f()(); println(c.n)
@@ -166,5 +166,5 @@ owners =
     with_classes u = record u { headers = record u.headers { order = number.Function 0 ∷ number.Class 12 ∷ [] } }
 
 owners_end : direct owners 20 start.Main (answer.Done ∷ []) ≡ ends (codes "3" ∷ []) the_end.Returned
-unfolding calls digits upwards is_below_within throwable_names
+unfolding calls digits upwards is_below_within throwables
 owners_end = refl

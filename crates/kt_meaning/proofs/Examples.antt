@@ -15,7 +15,7 @@ use Rattle.kt_typed.specs.declared.operators.BuiltIn.TheVariants as the_built_in
 use Rattle.kt_typed.specs.Bodies as e
 use Rattle.kt_typed.specs.Bodies.{StatementForm, parts_of}
 use Rattle.kt_typed.specs.Units.{UnitForm}
-use Rattle.kt_values.specs.Throwables.{throwable_names}
+use Rattle.kt_types_builtins.specs.Throwables.{throwables}
 use Rattle.kt_meaning.specs.Loops.{while_loop, for_loop}
 use Rattle.kt_meaning.specs.Units.{calls, direct}
 use Rattle.kt_meaning.proofs.Trees.{at, int_type, text_type, no_type, int, null, yes_literal, calculated, call_built_in, println, said, sentence, block, local_of, body, header, unit_of, main, ends}
@@ -53,7 +53,7 @@ zero_divisor = main [] (println (calculated arithmetic.Divide (int (pos 1)) (int
 zero_divisor_ends :
     direct zero_divisor 10 start.Main []
     ≡ ends [] (the_end.Uncaught (codes "java/lang/ArithmeticException") (Some (codes "/ by zero")))
-unfolding calls digits throwable_names
+unfolding calls digits throwables
 zero_divisor_ends = refl
 
 -- for (i in 2147483646..2147483647) println(i)

@@ -22,7 +22,7 @@ use Rattle.kt_typed.specs.declared.operators.Width.TheVariants as width
 use Rattle.kt_typed.specs.Bodies as e
 use Rattle.kt_typed.specs.Bodies.{ExpressionForm, StatementForm, BlockForm, expressions_of, statements_of, entries_of, conditions_of, catches_of, EntryForm}
 use Rattle.kt_typed.specs.Units.{UnitForm}
-use Rattle.kt_values.specs.Throwables.{throwable_names}
+use Rattle.kt_types_builtins.specs.Throwables.{throwables}
 use Rattle.kt_meaning.specs.Classes.{upwards, is_below_within}
 use Rattle.kt_meaning.specs.Loops.{while_loop, do_loop}
 use Rattle.kt_meaning.specs.Units.{calls, direct}
@@ -133,7 +133,7 @@ caught =
 caught_ends :
     direct caught 9 start.Main (answer.Done ∷ answer.Done ∷ [])
     ≡ ends (codes "/ by zero" ∷ codes "f" ∷ []) the_end.Returned
-unfolding calls digits upwards is_below_within throwable_names
+unfolding calls digits upwards is_below_within throwables
 caught_ends = refl
 
 -- fun g(): Int { while (true) { try { return 1 } finally { break } }; return 2 }, and println(g()) in main
@@ -164,7 +164,7 @@ casts =
 casts_end :
     direct casts 9 start.Main (answer.Done ∷ [])
     ≡ ends (codes "1" ∷ []) (the_end.Uncaught (codes "java/lang/ClassCastException") None)
-unfolding calls digits throwable_names
+unfolding calls digits throwables
 casts_end = refl
 
 -- println(null?.length); println("abc".substring(1, 2)); println("abc".substring(2, 1))
@@ -183,7 +183,7 @@ texts_end :
     direct texts 9 start.Main (answer.Done ∷ answer.Done ∷ [])
     ≡ ends (codes "null" ∷ codes "b" ∷ [])
     (the_end.Uncaught (codes "java/lang/StringIndexOutOfBoundsException") (Some (codes "2")))
-unfolding calls digits throwable_names
+unfolding calls digits throwables
 texts_end = refl
 
 -- println(1L shl 65); println(-7 / 2); println(-7 % 2); IntArray(-1)
@@ -200,5 +200,5 @@ numbers_end :
     direct numbers 9 start.Main (answer.Done ∷ answer.Done ∷ answer.Done ∷ [])
     ≡ ends (codes "2" ∷ codes "-3" ∷ codes "-1" ∷ [])
     (the_end.Uncaught (codes "java/lang/NegativeArraySizeException") (Some (codes "-1")))
-unfolding calls digits throwable_names
+unfolding calls digits throwables
 numbers_end = refl

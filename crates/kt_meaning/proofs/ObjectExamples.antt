@@ -23,7 +23,7 @@ use Rattle.kt_typed.specs.Bodies as e
 use Rattle.kt_typed.specs.Bodies.{ExpressionForm, StatementForm, FunForm, expressions_of, statements_of}
 use Rattle.kt_typed.specs.Operators.{LocalForm, CaptureForm}
 use Rattle.kt_typed.specs.Units.{UnitForm}
-use Rattle.kt_values.specs.Throwables.{throwable_names}
+use Rattle.kt_types_builtins.specs.Throwables.{throwables}
 use Rattle.kt_meaning.specs.Classes.{upwards, is_below_within}
 use Rattle.kt_meaning.specs.Lumps.{exported}
 use Rattle.kt_meaning.specs.Units.{calls, direct}
@@ -87,7 +87,7 @@ early_ends :
           (codes "5") ∷ [];
       end = Some the_end.Returned;
     }
-unfolding calls digits exported throwable_names
+unfolding calls digits exported throwables
 early_ends = refl
 
 early_waits :
@@ -96,7 +96,7 @@ early_waits :
       events = event.Draw ∷ event.Resume 1 (fate.Value (node.Int (pos 5) ∷ [])) ∷ event.Await 1 ∷ [];
       end = None;
     }
-unfolding calls digits exported throwable_names
+unfolding calls digits exported throwables
 early_waits = refl
 
 late_is_thrown :
@@ -105,7 +105,7 @@ late_is_thrown :
       events = event.Draw ∷ event.Resume 1 (fate.Value (node.Int (pos 5) ∷ [])) ∷ [];
       end = Some (the_end.Uncaught (codes "java/lang/IllegalStateException") (Some (codes "Already resumed")));
     }
-unfolding calls digits exported throwable_names
+unfolding calls digits exported throwables
 late_is_thrown = refl
 
 -- val i = 7; launch { println(i) }
@@ -123,13 +123,13 @@ launches_ends :
       events = event.Launch (node.Object (codes "MainKt$L1") 1 ∷ node.Int (pos 7) ∷ []) ∷ [];
       end = Some the_end.Returned;
     }
-unfolding calls digits exported throwable_names
+unfolding calls digits exported throwables
 launches_ends = refl
 
 launched_ends :
     direct launches 10 (start.Launched (node.Object (codes "MainKt$L1") 1 ∷ node.Int (pos 7) ∷ [])) (answer.Done ∷ [])
     ≡ ends (codes "7" ∷ []) the_end.Returned
-unfolding calls digits exported throwable_names
+unfolding calls digits exported throwables
 launched_ends = refl
 
 -- data class Point(val x: Int, val y: Int); println(Point(1, 2)); println(Point(1, 2) == Point(1, 2))
@@ -157,7 +157,7 @@ points =
 points_end :
     direct points 20 start.Main (answer.Done ∷ answer.Done ∷ [])
     ≡ ends (codes "Point(x=1, y=2)" ∷ codes "true" ∷ []) the_end.Returned
-unfolding calls digits upwards is_below_within throwable_names
+unfolding calls digits upwards is_below_within throwables
 points_end = refl
 
 -- class Failure : Exception("no"); try { throw Failure() } catch (e: RuntimeException) {} catch (e: Exception) {
@@ -187,7 +187,7 @@ failures =
     } ∷ [])
 
 failures_end : direct failures 20 start.Main (answer.Done ∷ []) ≡ ends (codes "no" ∷ []) the_end.Returned
-unfolding calls digits upwards is_below_within throwable_names
+unfolding calls digits upwards is_below_within throwables
 failures_end = refl
 
 -- fun at(): Int { println("i"); return 0 }, and in main: val a = IntArray(1); a[at()] += 2; println(a[0])
@@ -219,5 +219,5 @@ outside =
 outside_ends :
     direct outside 10 start.Main []
     ≡ ends [] (the_end.Uncaught (codes "java/lang/ArrayIndexOutOfBoundsException") (Some (codes "-1")))
-unfolding calls digits throwable_names
+unfolding calls digits throwables
 outside_ends = refl

@@ -1,6 +1,6 @@
 -- What each piece of code keeps: events and answers left are together as many as before, the turns left don't rise, and
 -- no bound is met that isn't below them.
-use Rattle.std.proofs.Common.{◌≡◌, ◌≤◌, ◌+◌, ℕ, zero, suc, List, [], ◌∷◌, ◌++◌, Bool, true, false, cond, Option, Some, None, length, arith, length-append}
+use Rattle.std.proofs.Common.{◌≡◌, ◌≤◌, ◌+◌, ℕ, zero, suc, List, [], ◌∷◌, Bool, true, false, cond, Option, Some, None, length, arith, length-append}
 use Rattle.kt_base.specs.declared.lumps.Lump.{Lump}
 use Rattle.kt_base.specs.declared.events.Event.{Event}
 use Rattle.kt_base.specs.declared.events.Answer.{Answer}
@@ -8,7 +8,7 @@ use Rattle.std.specs.Prelude.{slice_get, option_and_then}
 use Rattle.kt_values.specs.Values as v
 use Rattle.kt_values.specs.Values.{Value, Shape, Object, instance}
 use Rattle.kt_values.specs.Throwables.{Fault, fault_class, fault_message}
-use Rattle.kt_values.specs.Runs.{World, Store, Stop, turns_spent, numbers_spent, asks, unfit, bound_met, Gives, gave, thrown, returned, broken, continued, stopped, Run, then_do, ◌>>=◌, ◌>>◌, give, throws, returns, stop, or_unfit, spend, charge, answer_from, ask}
+use Rattle.kt_values.specs.Runs.{World, Store, Stop, numbers_spent, asks, unfit, bound_met, Gives, gave, thrown, returned, broken, continued, stopped, Run, then_do, ◌>>=◌, ◌>>◌, give, throws, returns, stop, or_unfit, spend, charge, answer_from, ask}
 use Rattle.kt_values.specs.Heap.{make, object_of, read_slot, write_at, write_slot, raise, text_or_null}
 
 -- n events and answers left, and at most k turns

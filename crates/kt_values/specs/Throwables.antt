@@ -1,14 +1,13 @@
 -- The classes of throwables that every file has, and what the language itself throws.
-use Rattle.std.specs.Prelude.{ℕ, ℤ, List, [], ◌∷◌, ◌++◌, Option, Some, None, codes}
+use Rattle.std.specs.Prelude.{map, ℕ, ℤ, List, ◌++◌, Option, Some, None, codes}
+use Rattle.kt_types_builtins.specs.declared.throwables.BuiltInThrowable.{BuiltInThrowable}
+use Rattle.kt_types_builtins.specs.declared.throwables.BuiltInThrowable.TheVariants as throwable
+use Rattle.kt_types_builtins.specs.Throwables.{throwable_name, throwable_row, throwables}
 use Rattle.std.specs.Fmt.{signed_decimal}
 
--- the throwables by their rows: the first rows of a file's classes, in this order
-unfoldable pub throwable_names : List (List ℕ)
-throwable_names =
-    codes "Throwable" ∷ codes "Exception" ∷ codes "RuntimeException" ∷ codes "IllegalStateException"
-    ∷ codes "IllegalArgumentException" ∷ codes "ArithmeticException" ∷ codes "NullPointerException"
-    ∷ codes "ClassCastException" ∷ codes "NegativeArraySizeException" ∷ codes "IndexOutOfBoundsException"
-    ∷ codes "ArrayIndexOutOfBoundsException" ∷ codes "StringIndexOutOfBoundsException" ∷ []
+-- the names of the throwables by their rows, which are the first rows of a file's classes
+abbrev pub throwable_names : List (List ℕ)
+throwable_names = map throwable_name throwables
 
 -- the name of a throwable in class files
 abbrev pub qualified : List ℕ → List ℕ
@@ -33,16 +32,20 @@ pub data Fault : Type 0 where
   -- `resume` on a continuation that has its outcome
   already_resumed : Fault
 
--- the row of the class that is thrown
+-- the class that is thrown
+abbrev pub thrown_class : Fault → BuiltInThrowable
+thrown_class zero_divisor = throwable.ArithmeticException
+thrown_class (array_index i) = throwable.ArrayIndexOutOfBoundsException
+thrown_class (text_index i) = throwable.StringIndexOutOfBoundsException
+thrown_class (negative_size n) = throwable.NegativeArraySizeException
+thrown_class failed_cast = throwable.ClassCastException
+thrown_class null_asserted = throwable.NullPointerException
+thrown_class text_too_long = throwable.IllegalArgumentException
+thrown_class already_resumed = throwable.IllegalStateException
+
+-- its row
 abbrev pub fault_class : Fault → ℕ
-fault_class zero_divisor = 5
-fault_class (array_index i) = 10
-fault_class (text_index i) = 11
-fault_class (negative_size n) = 8
-fault_class failed_cast = 7
-fault_class null_asserted = 6
-fault_class text_too_long = 4
-fault_class already_resumed = 3
+fault_class fault = throwable_row (thrown_class fault)
 
 -- its message
 abbrev pub fault_message : Fault → Option (List ℕ)
