@@ -4,7 +4,7 @@ ghost use Rattle.jvm_pool_bytes.specs.Raws.{raw_at, raw_size, raw_units};
 ghost use Rattle.jvm_pool_bytes.specs.Reading.{raws_of};
 ghost use Rattle.jvm_pool_bytes.specs.Raws.{same_raw};
 ghost use Rattle.std.specs.List.{list_any};
-ghost use Rattle.std.specs.Prelude.{◌≡◌, ◌+◌, ◌≤◌, ◌∷◌, ◌++◌, [], false, option_copied, IfOk};
+ghost use Rattle.std.specs.Prelude.{◌≡◌, ◌+◌, ◌≤◌, ◌∷◌, ◌++◌, [], false, length, option_copied, option_map, slice_get, IfOk};
 
 use indexmap::IndexSet;
 use jvm_pool_bytes::lookups::entry_at;
@@ -68,6 +68,30 @@ impl Raws {
         ensures { option_copied result ≡ raw_at 1 (raws_of self.now) index }
     {
         entry_at(&self.entries, self.starts.as_slice(), index)
+    }
+
+    /// How many entries there are.
+    pub fn len(&self) -> usize
+        ensures { result ≡ length self.now }
+    {
+        self.entries().len()
+    }
+
+    /// The entry at a position, with its offset.
+    #[tactic(auto, using(crate::proofs::Judging::no_offset, crate::proofs::Judging::no_raw))]
+    pub fn at(&self, position: usize) -> Option<(u64, &RawEntry)>
+        ensures { option_map (λ x. (x.0, x.1.now)) result ≡ slice_get self.now position }
+    {
+        let raw = self.entries.get_index(position)?;
+        let offset = self.offsets.get(position)?;
+        Some((*offset, raw))
+    }
+
+    /// The entries in order.
+    pub fn entries(&self) -> &[RawEntry]
+        ensures { result.now ≡ raws_of self.now }
+    {
+        self.entries.as_slice()
     }
 
     /// The entries, and behind them one that isn't among them, at an offset.
