@@ -117,7 +117,7 @@ fn expressions() -> &'static [Row] {
         ("W(a){1,2@b;E@{c\nd}}", Reading::Read(0)),
         ("a\n.b", Reading::Read(0)),
         ("a\nb", Reading::Read(2)),
-        ("a(b,)", Reading::Read(4)),
+        ("a(b,)", Reading::Refused(4)),
         ("a+", Reading::Refused(2)),
         ("(a", Reading::Refused(2)),
         ("B", Reading::Refused(0)),
