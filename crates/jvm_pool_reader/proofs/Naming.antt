@@ -1,12 +1,11 @@
 -- The names in a pool are ASCII.
-use Rattle.std.proofs.Common.{◌≡◌, ℕ, zero, suc, ◌+◌, ◌<◌, Bool, true, false, ◌&&◌, ◌||◌, List, [], ◌∷◌, ◌++◌, length, map, take, get_or, slice_get, Option, Some, None, refl, sym, ap, subst, ◌∙◌, arith, true≢false}
+use Rattle.std.proofs.Common.{◌≡◌, ℕ, zero, suc, ◌+◌, ◌<◌, Bool, true, false, ◌&&◌, ◌||◌, List, [], ◌∷◌, ◌++◌, length, map, take, get_or, slice_get, Some, refl, sym, ap, subst, ◌∙◌, true≢false}
 use Rattle.std.specs.Prelude.{nat_lt}
-use Rattle.std.specs.List.{list_any}
 use Rattle.std.proofs.lemmas.Bool.{and_parts}
 use Rattle.std.proofs.lemmas.List.{take_more, map_push}
 use Rattle.jvm_pool.specs.declared.entries.Entry.{Entry}
 use Rattle.jvm_pool.specs.declared.entries.Entry.TheVariants.{Utf8, Int, Long, Class, Text, Field, Method, InterfaceMethod, NameAndType}
-use Rattle.jvm_pool.specs.Entries.{same, same_text}
+use Rattle.jvm_pool.specs.Entries.{same}
 use Rattle.jvm_pool.specs.Mentions.{has}
 use Rattle.jvm_pool.proofs.Same.{same_self, same_is}
 use Rattle.jvm_pool.specs.DescriptorReading.{first_type}

@@ -7,3 +7,6 @@ pub mod misfits;
 pub mod raws;
 pub mod stretches;
 pub mod texts;
+mod reading;
+
+pub use reading::read_pool;

@@ -1,5 +1,4 @@
 use Rattle.std.proofs.Common.{length, ap, ◌∙◌}
-use Rattle.jvm_pool_bytes.specs.declared.raws.RawEntry.{RawEntry}
 use Rattle.jvm_pool_reader.proofs.Judging.{length_raws}
 use Rattle.jvm_pool_reader.proofs.raws.Raws.len.Goals as goal
 
