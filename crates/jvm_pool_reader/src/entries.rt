@@ -69,12 +69,7 @@ fn two_names(alloc: Global, first: &[u16], second: &[u16]) -> Result<(Name, Name
 }
 
 /// The class, the name and the descriptor of a member.
-fn member(
-    raws: &Raws,
-    alloc: Global,
-    class: u16,
-    pair: u16,
-) -> Result<(Name, Name, Name), NoMemory>
+fn member(raws: &Raws, alloc: Global, class: u16, pair: u16) -> Result<(Name, Name, Name), NoMemory>
     requires class { is_ascii (standing.class_at (raws_of raws.now) class) ≡ true }
     requires name { is_ascii (standing.name_at (raws_of raws.now) pair) ≡ true }
     requires descriptor { is_ascii (standing.descriptor_at (raws_of raws.now) pair) ≡ true }
@@ -119,7 +114,11 @@ pub fn entry(raws: &Raws, alloc: Global, raw: &RawEntry) -> Result<Entry, NoMemo
             Ok(Entry::InterfaceMethod(class, name, descriptor))
         }
         RawEntry::NameAndType(name, descriptor) => {
-            let (name, descriptor) = two_names(alloc, text_at(raws, *name), text_at(raws, *descriptor))?;
+            let (name, descriptor) = two_names(
+                alloc,
+                text_at(raws, *name),
+                text_at(raws, *descriptor),
+            )?;
             Ok(Entry::NameAndType(name, descriptor))
         }
     }

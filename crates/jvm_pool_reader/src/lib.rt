@@ -5,8 +5,8 @@ pub mod entries;
 pub mod kinds;
 pub mod misfits;
 pub mod raws;
+mod reading;
 pub mod stretches;
 pub mod texts;
-mod reading;
 
 pub use reading::read_pool;
