@@ -5,6 +5,8 @@
 #![tactic(auto)]
 
 #[cfg(test)]
+mod pools;
+#[cfg(test)]
 mod raw_entries;
 #[cfg(test)]
 mod runtime_classes;
