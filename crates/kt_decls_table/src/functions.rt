@@ -67,7 +67,7 @@ fn declared_result(
 }
 
 /// Whether there are no types.
-fn are_none(types: &[KtType]) -> bool
+pub fn are_none(types: &[KtType]) -> bool
     ensures { result ≡ spec.are_no_forms (forms_of (map type_form types.now)) }
 {
     match types {
