@@ -4,3 +4,4 @@ mod PlainHeaders
 mod PlainWalk
 mod PlainAnswers
 mod Tested
+mod PlainTold

@@ -10,7 +10,9 @@ use Rattle.kt_typed.specs.Headers.{function_form}
 use Rattle.kt_decls_table.specs.Functions.{Classes}
 use Rattle.kt_decls_rules.specs.Names.{none_taken}
 use Rattle.kt_decls_rules.specs.Headers.{AreWellFormed}
-use Rattle.kt_decls.specs.Judging.{fine, judge, no_classes, ArePlain, Judges, IsRefusal}
+use Rattle.kt_decls.specs.FunctionHeaders.{HaveHeaders}
+use Rattle.kt_decls.specs.Judging.{judge, no_classes, ArePlain, Judges, IsRefusal}
+use Rattle.kt_decls.proofs.PlainTold.{told}
 use Rattle.kt_decls.proofs.PlainWalk.{well_formed, refused}
 
 pub judged_alike :
@@ -24,8 +26,8 @@ judged_alike classes slice whole r none e j =
     (subst {A = Classes} (λ cs. Judges r (judge cs none_taken [] (map declaration_tree slice))) (λ i x. none x i) j)
 
 module _ (file : List DeclarationTree) (plain : ArePlain file) where
-  pub headers_told : (r : Result (List DeclaredFunction) FrontErr) → Judges r (judge no_classes none_taken [] file) → IfOk r (λ hs. judge no_classes none_taken [] file ≡ fine (map function_form hs))
-  headers_told (Ok hs) j = j
+  pub headers_told : (r : Result (List DeclaredFunction) FrontErr) → Judges r (judge no_classes none_taken [] file) → IfOk r (λ hs. HaveHeaders file (map function_form hs))
+  headers_told (Ok hs) j = told file (map function_form hs) j
   headers_told (Err e) j = tt
 
   pub well_formed_if : (r : Result (List DeclaredFunction) FrontErr) → Judges r (judge no_classes none_taken [] file) → OnOk r (AreWellFormed file)

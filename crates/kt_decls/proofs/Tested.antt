@@ -1,5 +1,5 @@
 -- The test of a plain file.
-use Rattle.std.specs.Prelude.{Bool, true, false, List, [], ◌∷◌, ◌≡◌, ◌↔◌, IsTrue, map, refl, if◌then◌else◌}
+use Rattle.std.specs.Prelude.{Bool, true, false, List, [], ◌∷◌, ◌≡◌, IsTrue, map, refl, if◌then◌else◌}
 use Rattle.std.proofs.Common.{rules, ap, sym, ◌∙◌, subst}
 use Rattle.kt_tree.specs.declared.declarations.Declaration.{Declaration}
 use Rattle.kt_tree.specs.Declarations.{DeclarationTree, declaration_tree, function, class, interface, enum, constant}

@@ -1,7 +1,8 @@
 //! The headers of a file of functions.
 
 ghost use Rattle.kt_decls.specs.Judging as spec;
-ghost use Rattle.kt_decls.specs.Judging.{ArePlain, IsRefusal, Judges, Steps, Told, fine, judge, no_classes};
+ghost use Rattle.kt_decls.specs.Judging.{ArePlain, IsRefusal, Judges, Steps, Told, judge};
+ghost use Rattle.kt_decls.specs.FunctionHeaders.{HaveHeaders};
 ghost use Rattle.kt_decls_rules.specs.Headers.{AreWellFormed};
 ghost use Rattle.kt_decls_rules.specs.Names.{none_taken};
 ghost use Rattle.kt_tree.specs.Declarations.{DeclarationTree, declaration_tree, file_tree, function, function_tree, type_parameter_tree};
@@ -126,8 +127,7 @@ pub fn declare_functions(
     tree: &FileTree,
 ) -> Result<Items<DeclaredFunction>, FrontErr>
     requires { ArePlain (file_tree tree.now) }
-    ensures headers { IfOk result (λ headers.
-        judge no_classes none_taken [] (file_tree tree.now) ≡ fine (map function_form headers)) }
+    ensures headers { IfOk result (λ headers. HaveHeaders (file_tree tree.now) (map function_form headers)) }
     ensures well_formed { OnOk result (AreWellFormed (file_tree tree.now)) }
     ensures refused { IfErr result (λ e. IsRefusal (file_tree tree.now) e) }
 {
