@@ -17,7 +17,7 @@ use Rattle.kt_grammar.specs.Terminals.{begins_expression, is_no_arrow, opens_arg
 use Rattle.kt_grammar.specs.Levels.{place, ends_in_name}
 use Rattle.kt_grammar.specs.declared.context.Context.{Context}
 use Rattle.kt_grammar.specs.Expressions.{in_lambda}
-use Rattle.kt_grammar.specs.Readers.{refuse, meant, on_if, lines, expect, maybe, maybe_commas, several_items, separated, type_arguments, type_parser}
+use Rattle.kt_grammar.specs.Readers.{refuse, meant, on_if, lines, expect, maybe, commas, maybe_commas, several_items, separated, type_parser}
 
 -- parsers of what a production may hold
 pub record Parsers : Type 0 where
@@ -68,11 +68,11 @@ module _ (room : ℕ) (below : Parsers) (at : Context) where
   abbrev pub has_more : ExpressionTree → Bool
   has_more a = nat_lt (levels a) room
 
-  abbrev pub called : ExpressionTree → List TypeTree → List ExpressionTree → ExpressionTree
-  called f ts es = e.call (place f) f ts (expressions_of es)
+  abbrev pub called : ExpressionTree → Pos → List TypeTree → List ExpressionTree → ExpressionTree
+  called f start ts es = e.call (place f) f start ts (expressions_of es)
 
   abbrev pub has_call : ExpressionTree → Bool
-  has_call f = nat_le (levels (called f [] [])) room
+  has_call f = nat_le (levels (called f (place f) [] [])) room
 
   abbrev pub part_if : Bool → Parser Token PartTree
   part_if true = below.part at
@@ -163,12 +163,17 @@ module _ (room : ℕ) (below : Parsers) (at : Context) where
   arguments_rest = maybe_commas (is_sign sign.CloseParenthesis) (below.disjunction at)
       >>= (λ es. where_next (is_sign sign.OpenBrace) (below.lambda at >>= (λ l. pure (es ++ l ∷ []))) (pure es))
 
-  -- a call behind its type arguments
-  abbrev pub call_parser : Parser Token (List ExpressionTree)
-  call_parser = on (is_sign sign.OpenParenthesis) (λ _. arguments_rest) (below.lambda at >>= (λ l. pure (l ∷ [])))
+  -- a call behind its type arguments, with the place of its first token
+  abbrev pub call_parser : Parser Token (List ExpressionTree × Pos)
+  call_parser =
+      on (is_sign sign.OpenParenthesis) (λ t. arguments_rest >>= (λ es. pure (es, t.pos)))
+      (below.lambda at >>= (λ l. pure (l ∷ [], place l)))
 
-  abbrev pub call_of : ExpressionTree → List TypeTree → Parser Token (ExpressionTree ⊎ ExpressionTree)
-  call_of a ts = call_parser >>= (λ es. pure (inl (called a ts es)))
+  abbrev pub call_of : ExpressionTree → List TypeTree × Pos → Parser Token (ExpressionTree ⊎ ExpressionTree)
+  call_of a ts = call_parser >>= (λ es. pure (inl (called a ts.1 ts.0 es.0)))
+
+  abbrev pub plain_call : ExpressionTree → Parser Token (ExpressionTree ⊎ ExpressionTree)
+  plain_call a = call_parser >>= (λ es. pure (inl (called a es.1 [] es.0)))
 
   -- behind '['
   abbrev pub element : ExpressionTree → Parser Token (ExpressionTree ⊎ ExpressionTree)
@@ -178,13 +183,14 @@ module _ (room : ℕ) (below : Parsers) (at : Context) where
   abbrev pub member : ExpressionTree → Bool → Parser Token (ExpressionTree ⊎ ExpressionTree)
   member a safe = lines >> (token is_identifier >>= (λ x. pure (inl (e.member (place a) a safe (name_of x)))))
 
-  abbrev pub type_arguments_of_call : Parser Token (List TypeTree)
-  type_arguments_of_call = type_arguments (type_parser room)
-      >>= (λ ts. ahead opens_arguments >> pure ts)
+  abbrev pub type_arguments_of_call : Parser Token (List TypeTree × Pos)
+  type_arguments_of_call =
+      expect sign.Less
+      >>= (λ t. commas (is_sign sign.Greater) (type_parser room) >>= (λ ts. ahead opens_arguments >> pure (ts, t.pos)))
 
   abbrev pub suffix_turn : ExpressionTree → Parser Token (ExpressionTree ⊎ ExpressionTree)
   suffix_turn a = attempt_if (ends_in_name a) type_arguments_of_call (call_of a)
-      (attempt_if (has_call a) (ahead opens_arguments) (λ _. call_of a [])
+      (attempt_if (has_call a) (ahead opens_arguments) (λ _. plain_call a)
       (on_if (has_more a) (is_sign sign.NotNull) (λ _. pure (inl (e.not_null (place a) a)))
       (on_if (has_more a) (is_sign sign.OpenBracket) (λ _. element a)
       (attempt_if (has_more a) (lines >> meant member_of) (λ safe. member a safe.1) (pure (inr a))))))

@@ -3,7 +3,7 @@
 
 pub mod types;
 
-pub use types::{annotation, named_type, read_type, type_arguments};
+pub use types::{annotation, named_type, read_type, type_list};
 
 #[cfg(test)]
 mod tests;

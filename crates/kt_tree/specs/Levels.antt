@@ -65,7 +65,7 @@ abbrev mutual
   levels (e.not_null at a) = levels a + 1
   levels (e.member at a safe x) = levels a + 1
   levels (e.index at a b) = max (levels a) (levels b) + 1
-  levels (e.call at f rs es) =
+  levels (e.call at f start rs es) =
       max (max (below_call f (levels f)) (expressions_levels es) + 1) (most (map type_levels rs))
   levels (e.if_else at a b c) = max (levels a) (max (body_levels b) (maybe_body_levels c)) + 1
   levels (e.when at a es) = max (maybe_levels a) (entries_levels es) + 1

@@ -96,7 +96,7 @@ abbrev mutual
   stage (e.not_null at a) = stage a
   stage (e.member at a safe x) = max (stage a) (name_stage x)
   stage (e.index at a b) = max (stage a) (stage b)
-  stage (e.call at f rs es) =
+  stage (e.call at f start rs es) =
       max (stage f) (max (types_stage (called_argument_stage f) (types_of rs)) (expressions_stage es))
   stage (e.if_else at a b c) = max (stage a) (max (body_stage b) (maybe_body_stage c))
   stage (e.when at a es) = max (maybe_stage a) (entries_stage es)

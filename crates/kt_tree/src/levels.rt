@@ -134,7 +134,7 @@ impl Expression {
             | ExpressionKind::Cast(value, _, written) => {
                 value.get().levels().saturating_add(1).max(written.levels())
             }
-            ExpressionKind::Call(called, types, arguments) => {
+            ExpressionKind::Call(called, _, types, arguments) => {
                 let callee = below_call(called.get(), called.get().levels());
                 let held = callee.max(expressions_levels(arguments.as_slice()));
                 held.saturating_add(1)

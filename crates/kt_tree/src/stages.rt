@@ -170,7 +170,7 @@ impl Expression {
             }
             ExpressionKind::TypeCheck(value, _, written)
             | ExpressionKind::Cast(value, _, written) => value.get().stage().max(written.stage()),
-            ExpressionKind::Call(called, types, arguments) => {
+            ExpressionKind::Call(called, _, types, arguments) => {
                 let types = types_stage(called_argument_stage(called.get()), types.as_slice());
                 let arguments = expressions_stage(arguments.as_slice());
                 called.get().stage().max(types.max(arguments))
