@@ -4,6 +4,3 @@
 pub mod types;
 
 pub use types::{annotation, named_type, read_type, type_arguments};
-
-#[cfg(test)]
-mod tests;
