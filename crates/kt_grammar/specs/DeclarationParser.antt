@@ -1,5 +1,24 @@
 -- Parsers of declarations and files.
-use Rattle.std.specs.Prelude.{ℕ, Bool, true, false, not, List, [], ◌∷◌, ◌++◌, length, ◌-◌, Option, None, Some, is_some, Ok, Err, ◌⊎◌}
+use Rattle.std.specs.Prelude.{
+  ℕ,
+  Bool,
+  true,
+  false,
+  not,
+  List,
+  [],
+  ◌∷◌,
+  ◌++◌,
+  length,
+  ◌-◌,
+  Option,
+  None,
+  Some,
+  is_some,
+  Ok,
+  Err,
+  ◌⊎◌,
+}
 use Rattle.std.proofs.Common.{inl, inr}
 use Rattle.kt_base.specs.declared.refusals.Pos.{Pos}
 use Rattle.kt_tree.specs.declared.tokens.Token.{Token}
@@ -17,11 +36,50 @@ use Rattle.kt_tree.specs.declared.declarations.ConstantValue.TheVariants as valu
 use Rattle.kt_tree.specs.Tokens.{is_keyword, is_sign, is_soft_keyword, is_identifier}
 use Rattle.kt_tree.specs.Types.{TypeTree}
 use Rattle.kt_tree.specs.Declarations as d
-use Rattle.kt_tree.specs.Declarations.{TypeParameterTree, TypedParameterTree, FunctionBodyTree, FunctionTree, ConstructorParameterTree, SupertypeTree, PropertyTree, MemberTree, ClassTree, InterfaceTree, ConstantTree, DeclarationTree}
+use Rattle.kt_tree.specs.Declarations.{
+  TypeParameterTree,
+  TypedParameterTree,
+  FunctionBodyTree,
+  FunctionTree,
+  ConstructorParameterTree,
+  SupertypeTree,
+  PropertyTree,
+  MemberTree,
+  ClassTree,
+  InterfaceTree,
+  ConstantTree,
+  DeclarationTree,
+}
 use Rattle.kt_grammar_parsers.specs.Parsers.{Outcome, Parser, cursor, ◌>>=◌, ◌>>◌, pure, token, on, attempt, repeat}
 use Rattle.kt_grammar.specs.Terminals.{name_of, is_end, is_open_quote, is_close_quote, literal_of, text_of, variable_of}
-use Rattle.kt_grammar.specs.Declarations.{Scope, Modified, first_place, start_of, has_body, may_be_generic, kind_of, arguments_at, outside, most_levels, at_top, in_class, in_interface}
-use Rattle.kt_grammar.specs.Readers.{meant, on_if, lines, expect, maybe, commas, maybe_commas, several_items, separated, named_type, type_parser}
+use Rattle.kt_grammar.specs.Declarations.{
+  Scope,
+  Modified,
+  first_place,
+  start_of,
+  has_body,
+  may_be_generic,
+  kind_of,
+  arguments_at,
+  outside,
+  most_levels,
+  at_top,
+  in_class,
+  in_interface,
+}
+use Rattle.kt_grammar.specs.Readers.{
+  meant,
+  on_if,
+  lines,
+  expect,
+  maybe,
+  commas,
+  maybe_commas,
+  several_items,
+  separated,
+  named_type,
+  type_parser,
+}
 use Rattle.kt_grammar.specs.ExpressionParser.{Parsers, block_of}
 use Rattle.kt_grammar.specs.StatementParser.{parsers}
 

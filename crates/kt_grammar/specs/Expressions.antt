@@ -1,5 +1,23 @@
 -- The grammar of expressions: each production over the phrases that have one level less.
-use Rattle.std.specs.Prelude.{ℕ, ◌+◌, Bool, true, false, not, nat_lt, nat_le, List, [], ◌∷◌, ◌++◌, Option, None, Some, is_some, ◌⊎◌}
+use Rattle.std.specs.Prelude.{
+  ℕ,
+  ◌+◌,
+  Bool,
+  true,
+  false,
+  not,
+  nat_lt,
+  nat_le,
+  List,
+  [],
+  ◌∷◌,
+  ◌++◌,
+  Option,
+  None,
+  Some,
+  is_some,
+  ◌⊎◌,
+}
 use Rattle.std.proofs.Common.{inl, inr}
 use Rattle.kt_base.specs.declared.refusals.Pos.{Pos}
 use Rattle.kt_tree.specs.declared.tokens.Token.{Token}
@@ -10,7 +28,23 @@ use Rattle.kt_tree.specs.declared.bodies.BinaryOperator.{BinaryOperator}
 use Rattle.kt_tree.specs.Tokens.{is_new_line, is_sign}
 use Rattle.kt_tree.specs.Types.{TypeTree}
 use Rattle.kt_tree.specs.Bodies as e
-use Rattle.kt_tree.specs.Bodies.{ExpressionTree, PartTree, ParameterTree, StatementTree, BlockTree, EntryTree, ConditionTree, CatchTree, expressions_of, parts_of, entries_of, conditions_of, catches_of, statements_of, maybe_expression}
+use Rattle.kt_tree.specs.Bodies.{
+  ExpressionTree,
+  PartTree,
+  ParameterTree,
+  StatementTree,
+  BlockTree,
+  EntryTree,
+  ConditionTree,
+  CatchTree,
+  expressions_of,
+  parts_of,
+  entries_of,
+  conditions_of,
+  catches_of,
+  statements_of,
+  maybe_expression,
+}
 use Rattle.kt_tree.specs.Levels.{levels, parts_levels}
 use Rattle.kt_grammar_parsers.specs.Parsers.{some_levels}
 use Rattle.kt_grammar_parsers.specs.Phrases.{Chain, IsToken, Seq, Either, Loop, If, Where, WhereNext, WhereRoom, IsAhead}
@@ -170,8 +204,8 @@ module _ (room : ℕ) (below : Phrases) (at : Context) where
   abbrev pub IsContinue : ExpressionTree → List Token → List Token → Type 0
   IsContinue = If at.in_loop (Seq (IsKeyword word.Continue) (λ t. Gives (e.continue t.pos))) Empty
 
-  -- primary : '(' expr ')' | if | 'throw' expr | 'return' expr? | 'break' | 'continue' | lambda | when | try | string | 'this'
-  --         | ID | literal
+  -- primary : '(' expr ')' | if | 'throw' expr | 'return' expr? | 'break' | 'continue' | lambda | when | try | string
+  --         | 'this' | ID | literal
   abbrev pub IsPrimary : ExpressionTree → List Token → List Token → Type 0
   IsPrimary = Either IsParenthesized (Either IsIf (Either IsThrow (Either IsReturn (Either IsBreak (Either IsContinue
       (Either IsLambda (Either IsWhen (Either IsTry (Either IsString (Either IsThis (Either IsName IsLiteral)))))))))))

@@ -2,7 +2,16 @@
 use Rattle.std.specs.Prelude.{ℕ, Bool, true, false, List}
 use Rattle.kt_base.specs.declared.refusals.Pos.{Pos}
 use Rattle.kt_tree.specs.declared.tokens.Token.{Token}
-use Rattle.kt_tree.specs.Bodies.{ExpressionTree, StatementTree, BodyTree, PartTree, ParameterTree, EntryTree, ConditionTree, CatchTree}
+use Rattle.kt_tree.specs.Bodies.{
+  ExpressionTree,
+  StatementTree,
+  BodyTree,
+  PartTree,
+  ParameterTree,
+  EntryTree,
+  ConditionTree,
+  CatchTree,
+}
 use Rattle.kt_tree.specs.Bodies as e
 use Rattle.kt_grammar.specs.declared.context.Context.{Context}
 use Rattle.kt_grammar.specs.Words.{Empty}

@@ -5,7 +5,16 @@ use Rattle.kt_tree.specs.declared.tokens.Sign.TheVariants as sign
 use Rattle.kt_tree.specs.declared.tokens.Keyword.TheVariants as word
 use Rattle.kt_tree.specs.Tokens.{is_keyword, is_sign, is_identifier}
 use Rattle.kt_tree.specs.Bodies as e
-use Rattle.kt_tree.specs.Bodies.{ExpressionTree, StatementTree, BodyTree, EntryTree, ConditionTree, CatchTree, conditions_of, maybe_expression}
+use Rattle.kt_tree.specs.Bodies.{
+  ExpressionTree,
+  StatementTree,
+  BodyTree,
+  EntryTree,
+  ConditionTree,
+  CatchTree,
+  conditions_of,
+  maybe_expression,
+}
 use Rattle.kt_tree.specs.Levels.{levels}
 use Rattle.kt_grammar_parsers.specs.Parsers.{some_levels, first, Parser, ◌>>=◌, ◌>>◌, pure, token, on, attempt_if}
 use Rattle.kt_grammar.specs.Terminals.{name_of, variable_of, assignment_of, step_of, range_of, type_check_of}
@@ -13,7 +22,24 @@ use Rattle.kt_grammar.specs.Levels.{place, is_target}
 use Rattle.kt_grammar.specs.declared.context.Context.{Context}
 use Rattle.kt_grammar.specs.Statements.{in_loop}
 use Rattle.kt_grammar.specs.Readers.{refuse, meant, on_if, lines, expect, maybe, several_items, type_parser}
-use Rattle.kt_grammar.specs.ExpressionParser.{Parsers, part_of, parameter_of, block_rest, block_of, lambda_parser, prefix_parser, cast_parser, multiplicative_parser, additive_parser, infix_parser, test_parser, comparison_parser, equality_parser, conjunction_parser, disjunction_parser}
+use Rattle.kt_grammar.specs.ExpressionParser.{
+  Parsers,
+  part_of,
+  parameter_of,
+  block_rest,
+  block_of,
+  lambda_parser,
+  prefix_parser,
+  cast_parser,
+  multiplicative_parser,
+  additive_parser,
+  infix_parser,
+  test_parser,
+  comparison_parser,
+  equality_parser,
+  conjunction_parser,
+  disjunction_parser,
+}
 
 abbrev pub refused_if : {A : Type 0} → Bool → Parser Token A → Parser Token A
 refused_if true p = refuse

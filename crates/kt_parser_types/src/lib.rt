@@ -4,6 +4,3 @@
 pub mod types;
 
 pub use types::{annotation, named_type, read_type, type_list};
-
-#[cfg(test)]
-mod tests;

@@ -1,12 +1,81 @@
 -- Phrases of at most so many levels have trees of at most so many levels.
-use Rattle.std.proofs.Common.{◌≡◌, ℕ, zero, suc, ◌+◌, ◌≤◌, ◌<◌, Bool, true, false, ◌&&◌, nat_lt, nat_le, max, List, [], ◌∷◌, ◌++◌, Option, None, Some, refl, ap, sym, subst, arith, inl, inr, ◌⊎◌, map}
+use Rattle.std.proofs.Common.{
+  ◌≡◌,
+  ℕ,
+  zero,
+  suc,
+  ◌+◌,
+  ◌≤◌,
+  ◌<◌,
+  Bool,
+  true,
+  false,
+  ◌&&◌,
+  nat_lt,
+  nat_le,
+  max,
+  List,
+  [],
+  ◌∷◌,
+  ◌++◌,
+  Option,
+  None,
+  Some,
+  refl,
+  ap,
+  sym,
+  subst,
+  arith,
+  inl,
+  inr,
+  ◌⊎◌,
+  map,
+}
 use Rattle.std.proofs.lemmas.Bool.Decides.{nat_tests}
 use Rattle.kt_tree.specs.declared.tokens.Token.{Token}
 use Rattle.kt_base.specs.declared.refusals.Pos.{Pos}
 use Rattle.kt_tree.specs.Types.{TypeTree}
 use Rattle.kt_tree.specs.Bodies as e
-use Rattle.kt_tree.specs.Bodies.{ExpressionTree, StatementTree, BodyTree, BlockTree, PartTree, ParameterTree, EntryTree, ConditionTree, CatchTree, expressions_of, parts_of, entries_of, conditions_of, catches_of, statements_of, maybe_expression}
-use Rattle.kt_tree.specs.Levels.{most, levels, type_levels, maybe_type_levels, parameter_levels, expressions_levels, maybe_levels, part_levels, parts_levels, part_level, entry_levels, entries_levels, condition_levels, conditions_levels, catch_levels, catches_levels, body_levels, block_levels, statement_levels, statements_levels}
+use Rattle.kt_tree.specs.Bodies.{
+  ExpressionTree,
+  StatementTree,
+  BodyTree,
+  BlockTree,
+  PartTree,
+  ParameterTree,
+  EntryTree,
+  ConditionTree,
+  CatchTree,
+  expressions_of,
+  parts_of,
+  entries_of,
+  conditions_of,
+  catches_of,
+  statements_of,
+  maybe_expression,
+}
+use Rattle.kt_tree.specs.Levels.{
+  most,
+  levels,
+  type_levels,
+  maybe_type_levels,
+  parameter_levels,
+  expressions_levels,
+  maybe_levels,
+  part_levels,
+  parts_levels,
+  part_level,
+  entry_levels,
+  entries_levels,
+  condition_levels,
+  conditions_levels,
+  catch_levels,
+  catches_levels,
+  body_levels,
+  block_levels,
+  statement_levels,
+  statements_levels,
+}
 use Rattle.kt_grammar_parsers.specs.Parsers.{some_levels}
 use Rattle.kt_grammar_parsers.specs.Phrases.{Seq, Loop, Chain}
 use Rattle.kt_grammar.specs.Levels.{Phrases, none, place, ends_in_name, is_target}
@@ -17,7 +86,29 @@ use Rattle.kt_grammar.specs.Statements as s
 use Rattle.kt_grammar.specs.Statements.{in_loop, over, phrases}
 use Rattle.kt_grammar_parsers.proofs.Steps.{truth}
 use Rattle.kt_grammar.proofs.levels.Room.{some_level}
-use Rattle.kt_grammar.proofs.levels.Holding.{Each, Turns, All, Perhaps, all_last, most_of, each_gives, each_either, each_if, each_past, each_seq, each_then, each_where, each_room, each_loop, each_comma_list, each_maybe_comma_list, each_several, each_items, each_maybe, each_empty}
+use Rattle.kt_grammar.proofs.levels.Holding.{
+  Each,
+  Turns,
+  All,
+  Perhaps,
+  all_last,
+  most_of,
+  each_gives,
+  each_either,
+  each_if,
+  each_past,
+  each_seq,
+  each_then,
+  each_where,
+  each_room,
+  each_loop,
+  each_comma_list,
+  each_maybe_comma_list,
+  each_several,
+  each_items,
+  each_maybe,
+  each_empty,
+}
 use Rattle.kt_grammar.proofs.levels.TypeLevels.{TypeFits, maybe_type_fits, type_fits}
 
 -- ---- of lists, from what holds of each item

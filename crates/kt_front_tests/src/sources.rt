@@ -1,8 +1,8 @@
 //! Texts through the lexer and the parser: sentences, and refusals at their places.
 
-use crate::read_source;
-use crate::table::{Row, rows_1, rows_2, rows_3, rows_4, rows_5, rows_6};
+use crate::rows::{Row, rows_1, rows_2, rows_3, rows_4, rows_5, rows_6};
 use kt_base::{FrontErr, Kind, Pos, Refusal};
+use kt_parser::read_source;
 use std::alloc::{AllocError, Global};
 use std::test::Fail;
 

@@ -1,9 +1,10 @@
 //! Trees of great width are built, walked and dropped.
 
-use crate::bodies::{Block, Expression, ExpressionKind, Statement, StatementKind};
-use crate::declarations::{Declaration, EnumDeclaration, FileTree};
-use crate::tokens::{Keyword, Sign, SoftKeyword, Token, TokenKind};
 use kt_base::{Name, NoMemory, Pos};
+use kt_tree::{
+    Block, Declaration, EnumDeclaration, Expression, ExpressionKind, FileTree, Statement,
+    StatementKind,
+};
 use sqlite_items::{Boxed, Items};
 use std::alloc::Global;
 use std::test::Fail;
@@ -63,26 +64,5 @@ fn wide_trees(rt: HostRuntime) -> Result<(), Fail> {
     let file = wide_file(alloc, 100_000)?;
     assert_eq!(rt; file.declarations.len(), 100_000);
     assert_eq!(rt; file.levels(), 0);
-    Ok(())
-}
-
-#[test]
-fn tokens_are_told_apart(rt: HostRuntime) -> Result<(), Fail> {
-    let alloc = rt.alloc();
-    let until = Token {
-        kind: TokenKind::Identifier(Name::of(alloc, b"until")?),
-        pos: AT,
-    };
-    assert!(rt; until.is_identifier());
-    assert!(rt; until.is_soft_keyword(SoftKeyword::Until));
-    assert!(rt; !until.is_soft_keyword(SoftKeyword::Ushr));
-    assert!(rt; !until.is_keyword(Keyword::When));
-    let arrow = Token {
-        kind: TokenKind::Sign(Sign::Arrow),
-        pos: AT,
-    };
-    assert!(rt; arrow.is_sign(Sign::Arrow));
-    assert!(rt; !arrow.is_sign(Sign::Minus));
-    assert!(rt; !arrow.is_new_line());
     Ok(())
 }

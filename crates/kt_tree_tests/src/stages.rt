@@ -1,12 +1,10 @@
 //! The stages of small files.
 
-use crate::bodies::{Block, Expression, ExpressionKind, LambdaLiteral};
-use crate::declarations::{
-    ConstantDeclaration, ConstantValue, Declaration, FileTree, FunctionBody, FunctionDeclaration,
-    FunctionModifiers,
-};
-use crate::types::TypeReference;
 use kt_base::{Name, NoMemory, Pos};
+use kt_tree::{
+    Block, ConstantDeclaration, ConstantValue, Declaration, Expression, ExpressionKind, FileTree,
+    FunctionBody, FunctionDeclaration, FunctionModifiers, LambdaLiteral, TypeReference,
+};
 use sqlite_items::{Boxed, Items};
 use std::alloc::Global;
 use std::test::Fail;

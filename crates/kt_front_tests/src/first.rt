@@ -1,6 +1,6 @@
 //! Texts with the code that they have, texts that have none, and the limits.
 
-use crate::parse_first;
+use kt_first::parse_first;
 use std::alloc::{AllocError, Global};
 use std::test::Fail;
 

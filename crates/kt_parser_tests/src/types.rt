@@ -1,9 +1,9 @@
 //! Lists of tokens: types with what they are, and refusals with their place.
 
-use crate::types::read_type;
 use kt_base::{Name, Pos};
 use kt_parser_steps::{ParseError, Tokens};
-use kt_tree::{Sign, Token, TokenKind, TypeReference};
+use kt_parser_types::read_type;
+use kt_tree::{Sign, Token, TokenKind};
 use std::alloc::Global;
 use std::test::Fail;
 
@@ -48,33 +48,46 @@ fn answer(alloc: Global, letters: &[u8]) -> Result<Reading, Fail> {
     }
 }
 
-#[test]
-fn types_are_read(rt: HostRuntime) -> Result<(), Fail> {
-    let alloc = rt.alloc();
-    assert_eq!(rt; answer(alloc, b"i")?, Reading::Read(0));
-    assert_eq!(rt; answer(alloc, b"i?")?, Reading::Read(0));
-    assert_eq!(rt; answer(alloc, b"i<i,i<i?>>?")?, Reading::Read(0));
-    assert_eq!(rt; answer(alloc, b"()-i")?, Reading::Read(0));
-    assert_eq!(rt; answer(alloc, b"(i,i)-i?")?, Reading::Read(0));
-    assert_eq!(rt; answer(alloc, b"s(i)-i")?, Reading::Read(0));
-    assert_eq!(rt; answer(alloc, b"s")?, Reading::Read(0));
-    assert_eq!(rt; answer(alloc, b"((i)-i)?")?, Reading::Read(0));
-    assert_eq!(rt; answer(alloc, b"i<i")?, Reading::Read(2));
-    assert_eq!(rt; answer(alloc, b"(i)-(i)-i")?, Reading::Read(0));
-    Ok(())
+/// Letters, and what their tokens read as.
+type Row = (&'static str, Reading);
+
+fn types() -> &'static [Row] {
+    &[
+        ("i", Reading::Read(0)),
+        ("i?", Reading::Read(0)),
+        ("i<i,i<i?>>?", Reading::Read(0)),
+        ("()-i", Reading::Read(0)),
+        ("(i,i)-i?", Reading::Read(0)),
+        ("s(i)-i", Reading::Read(0)),
+        ("s", Reading::Read(0)),
+        ("((i)-i)?", Reading::Read(0)),
+        ("i<i", Reading::Read(2)),
+        ("(i)-(i)-i", Reading::Read(0)),
+        ("", Reading::Refused(0)),
+        ("?", Reading::Refused(0)),
+        ("()", Reading::Refused(2)),
+        ("(i,i)", Reading::Refused(5)),
+        ("(i,)-i", Reading::Refused(3)),
+        ("(i", Reading::Refused(2)),
+        ("s(i)", Reading::Refused(4)),
+        ("(i<i", Reading::Refused(4)),
+        ("(i)-", Reading::Refused(4)),
+    ]
+}
+
+/// The first list that doesn't read as its row says, by its number.
+fn wrong_type(alloc: Global) -> Result<Option<usize>, Fail> {
+    for (number, row) in types().iter().enumerate() {
+        let (letters, wanted) = *row;
+        if answer(alloc, letters.as_bytes())? != wanted {
+            return Ok(Some(number));
+        }
+    }
+    Ok(None)
 }
 
 #[test]
-fn no_types_are_refused(rt: HostRuntime) -> Result<(), Fail> {
-    let alloc = rt.alloc();
-    assert_eq!(rt; answer(alloc, b"")?, Reading::Refused(0));
-    assert_eq!(rt; answer(alloc, b"?")?, Reading::Refused(0));
-    assert_eq!(rt; answer(alloc, b"()")?, Reading::Refused(2));
-    assert_eq!(rt; answer(alloc, b"(i,i)")?, Reading::Refused(5));
-    assert_eq!(rt; answer(alloc, b"(i,)-i")?, Reading::Refused(3));
-    assert_eq!(rt; answer(alloc, b"(i")?, Reading::Refused(2));
-    assert_eq!(rt; answer(alloc, b"s(i)")?, Reading::Refused(4));
-    assert_eq!(rt; answer(alloc, b"(i<i")?, Reading::Refused(4));
-    assert_eq!(rt; answer(alloc, b"(i)-")?, Reading::Refused(4));
+fn types_read_as_their_rows(rt: HostRuntime) -> Result<(), Fail> {
+    assert_eq!(rt; wrong_type(rt.alloc())?, None);
     Ok(())
 }

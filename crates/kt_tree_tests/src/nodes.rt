@@ -1,12 +1,12 @@
-//! A node of each kind of file is built, and its levels are counted.
+//! A node of each kind is built, and its levels are counted.
 
 ghost use Rattle.kt_tree.specs.Bodies.{expression_tree, statement_tree};
 ghost use Rattle.kt_tree.specs.Levels.{levels, statement_levels};
 ghost use Rattle.std.specs.Prelude.{◌≡◌, IfOk};
 
-use crate::{blocks, expressions, statements, strings};
 use kt_base::{Name, NoMemory, Pos};
 use kt_tree::{AssignmentOperator, BinaryOperator, Expression, Literal, Statement, TypeReference};
+use kt_tree_nodes::{blocks, expressions, statements, strings};
 use sqlite_items::Items;
 use std::alloc::Global;
 use std::test::Fail;
