@@ -1,5 +1,23 @@
 -- Parsers of expressions.
-use Rattle.std.specs.Prelude.{ℕ, ◌+◌, Bool, true, false, not, nat_lt, nat_le, List, [], ◌∷◌, ◌++◌, Option, None, Some, is_some, ◌⊎◌}
+use Rattle.std.specs.Prelude.{
+  ℕ,
+  ◌+◌,
+  Bool,
+  true,
+  false,
+  not,
+  nat_lt,
+  nat_le,
+  List,
+  [],
+  ◌∷◌,
+  ◌++◌,
+  Option,
+  None,
+  Some,
+  is_some,
+  ◌⊎◌,
+}
 use Rattle.std.proofs.Common.{inl, inr}
 use Rattle.kt_base.specs.declared.refusals.Pos.{Pos}
 use Rattle.kt_tree.specs.declared.tokens.Token.{Token}
@@ -10,14 +28,81 @@ use Rattle.kt_tree.specs.declared.bodies.BinaryOperator.{BinaryOperator}
 use Rattle.kt_tree.specs.Tokens.{is_keyword, is_sign, is_soft_keyword, is_new_line, is_identifier}
 use Rattle.kt_tree.specs.Types.{TypeTree}
 use Rattle.kt_tree.specs.Bodies as e
-use Rattle.kt_tree.specs.Bodies.{ExpressionTree, PartTree, ParameterTree, StatementTree, BodyTree, BlockTree, EntryTree, ConditionTree, CatchTree, expressions_of, parts_of, entries_of, conditions_of, catches_of, statements_of, maybe_expression}
+use Rattle.kt_tree.specs.Bodies.{
+  ExpressionTree,
+  PartTree,
+  ParameterTree,
+  StatementTree,
+  BodyTree,
+  BlockTree,
+  EntryTree,
+  ConditionTree,
+  CatchTree,
+  expressions_of,
+  parts_of,
+  entries_of,
+  conditions_of,
+  catches_of,
+  statements_of,
+  maybe_expression,
+}
 use Rattle.kt_tree.specs.Levels.{levels, parts_levels}
-use Rattle.kt_grammar_parsers.specs.Parsers.{some_levels, Parser, ◌>>=◌, ◌>>◌, pure, token, on, attempt, attempt_if, where_next, ahead, repeat, chain}
-use Rattle.kt_grammar.specs.Terminals.{begins_expression, is_no_arrow, opens_arguments, name_of, is_open_quote, is_close_quote, is_name_part, is_this_part, is_open_template, literal_of, text_of, disjunction_of, conjunction_of, equality_of, comparison_of, elvis_of, infix_of, additive_of, multiplicative_of, prefix_of, type_check_of, cast_of, member_of}
+use Rattle.kt_grammar_parsers.specs.Parsers.{
+  some_levels,
+  Parser,
+  ◌>>=◌,
+  ◌>>◌,
+  pure,
+  token,
+  on,
+  attempt,
+  attempt_if,
+  where_next,
+  ahead,
+  repeat,
+  chain,
+}
+use Rattle.kt_grammar.specs.Terminals.{
+  begins_expression,
+  is_no_arrow,
+  opens_arguments,
+  name_of,
+  is_open_quote,
+  is_close_quote,
+  is_name_part,
+  is_this_part,
+  is_open_template,
+  literal_of,
+  text_of,
+  disjunction_of,
+  conjunction_of,
+  equality_of,
+  comparison_of,
+  elvis_of,
+  infix_of,
+  additive_of,
+  multiplicative_of,
+  prefix_of,
+  type_check_of,
+  cast_of,
+  member_of,
+}
 use Rattle.kt_grammar.specs.Levels.{place, ends_in_name}
 use Rattle.kt_grammar.specs.declared.context.Context.{Context}
 use Rattle.kt_grammar.specs.Expressions.{in_lambda}
-use Rattle.kt_grammar.specs.Readers.{refuse, meant, on_if, lines, expect, maybe, commas, maybe_commas, several_items, separated, type_parser}
+use Rattle.kt_grammar.specs.Readers.{
+  refuse,
+  meant,
+  on_if,
+  lines,
+  expect,
+  maybe,
+  commas,
+  maybe_commas,
+  several_items,
+  separated,
+  type_parser,
+}
 
 -- parsers of what a production may hold
 pub record Parsers : Type 0 where

@@ -47,9 +47,60 @@ use Rattle.kt_tree.specs.Bodies.{
 }
 use Rattle.kt_tree.specs.Levels.{levels, parts_levels}
 use Rattle.kt_grammar_parsers.specs.Parsers.{some_levels}
-use Rattle.kt_grammar_parsers.specs.Phrases.{Chain, IsToken, Seq, Either, Loop, If, Where, WhereNext, WhereRoom, IsAhead}
-use Rattle.kt_grammar.specs.Terminals.{begins_expression, is_no_arrow, opens_arguments, name_of, is_open_quote, is_close_quote, is_name_part, is_this_part, is_open_template, literal_of, text_of, disjunction_of, conjunction_of, equality_of, comparison_of, elvis_of, infix_of, additive_of, multiplicative_of, prefix_of, type_check_of, cast_of, member_of}
-use Rattle.kt_grammar.specs.Words.{Empty, Gives, IsSign, IsKeyword, IsSoftKeyword, IsIdentifier, IsMeant, IsLines, IsPast, Maybe, CommaList, MaybeCommaList, Several, Items, Directly}
+use Rattle.kt_grammar_parsers.specs.Phrases.{
+  Chain,
+  IsToken,
+  Seq,
+  Either,
+  Loop,
+  If,
+  Where,
+  WhereNext,
+  WhereRoom,
+  IsAhead,
+}
+use Rattle.kt_grammar.specs.Terminals.{
+  begins_expression,
+  is_no_arrow,
+  opens_arguments,
+  name_of,
+  is_open_quote,
+  is_close_quote,
+  is_name_part,
+  is_this_part,
+  is_open_template,
+  literal_of,
+  text_of,
+  disjunction_of,
+  conjunction_of,
+  equality_of,
+  comparison_of,
+  elvis_of,
+  infix_of,
+  additive_of,
+  multiplicative_of,
+  prefix_of,
+  type_check_of,
+  cast_of,
+  member_of,
+}
+use Rattle.kt_grammar.specs.Words.{
+  Empty,
+  Gives,
+  IsSign,
+  IsKeyword,
+  IsSoftKeyword,
+  IsIdentifier,
+  IsMeant,
+  IsLines,
+  IsPast,
+  Maybe,
+  CommaList,
+  MaybeCommaList,
+  Several,
+  Items,
+  Directly,
+}
 use Rattle.kt_grammar.specs.Types.{IsType}
 use Rattle.kt_grammar.specs.Levels.{Phrases, place, ends_in_name}
 use Rattle.kt_grammar.specs.declared.context.Context.{Context}
@@ -261,8 +312,8 @@ module _ (room : ℕ) (below : Phrases) (at : Context) where
       (λ ts. Seq (IsAhead opens_arguments) (λ _. Gives (ts, t.pos))))
 
   -- suffix : '!!' | call | '[' expr ']' | n ('.' | '?.') n ID      call : targs? ('(' args? ')' lambda? | lambda)
-  -- As many suffixes are taken as follow: one follows where its first token does. Where a name is followed by tokens that
-  -- read as type arguments and then `(` or `{`, they are read so.
+  -- As many suffixes are taken as follow: one follows where its first token does. Where a name is followed by tokens
+  -- that read as type arguments and then `(` or `{`, they are read so.
   abbrev pub SuffixTurn : ExpressionTree → ExpressionTree ⊎ ExpressionTree → List Token → List Token → Type 0
   SuffixTurn a = WhereRoom (ends_in_name a) IsTypeArgumentsOfCall (IsCallOf a)
       (WhereRoom (has_call a) (IsAhead opens_arguments) (λ _. IsPlainCall a)

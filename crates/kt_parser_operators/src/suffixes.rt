@@ -83,13 +83,7 @@ impl<
     {
         let arguments = self.call_arguments(at, tokens);
         let ((value, types), (arguments, _)) = beside((value, types), arguments)?;
-        Ok(Turn::More(call(
-            self.below.alloc,
-            value,
-            start,
-            types,
-            arguments,
-        )?))
+        Ok(Turn::More(call(self.below.alloc, value, start, types, arguments)?))
     }
 
     /// `arguments`, those of a call without type arguments.
@@ -107,13 +101,7 @@ impl<
         let arguments = self.call_arguments(at, tokens);
         let (value, (arguments, start)) = beside(value, arguments)?;
         let types = Items::new(self.below.alloc);
-        Ok(Turn::More(call(
-            self.below.alloc,
-            value,
-            start,
-            types,
-            arguments,
-        )?))
+        Ok(Turn::More(call(self.below.alloc, value, start, types, arguments)?))
     }
 
     /// A primary expression, and the suffixes behind it.
@@ -262,7 +250,8 @@ impl<
         Ok(Turn::More(member(self.below.alloc, value, safe, name)?))
     }
 
-    /// The arguments of a call: in parentheses and perhaps a lambda behind them, or a lambda alone; and where they begin.
+    /// The arguments of a call, in parentheses and perhaps a lambda behind them, or a lambda alone; and where they
+    /// begin.
     fn call_arguments(
         &self,
         at: Context,

@@ -18,8 +18,30 @@ use Rattle.kt_tree.specs.declared.bodies.Expression.{Expression}
 use Rattle.kt_tree.specs.declared.bodies.LambdaLiteral.{LambdaLiteral}
 use Rattle.kt_tree.specs.declared.bodies.Statement.{Statement}
 use Rattle.kt_tree.specs.declared.bodies.WhenEntry.{WhenEntry}
-use Rattle.kt_tree.specs.declared.bodies.ControlStructureBody.TheOpen.{ControlStructureBody-F, ExpressionKind-F, StatementKind-F, StringPart-F, WhenCondition-F, Block-F, CatchBlock-F, Expression-F, LambdaLiteral-F, Statement-F, WhenEntry-F}
-use Rattle.kt_tree.specs.declared.bodies.ControlStructureBody.TheFolds.{fold-ControlStructureBody, fold-StringPart, fold-WhenCondition, fold-Block, fold-CatchBlock, fold-Expression, fold-LambdaLiteral, fold-Statement, fold-WhenEntry}
+use Rattle.kt_tree.specs.declared.bodies.ControlStructureBody.TheOpen.{
+  ControlStructureBody-F,
+  ExpressionKind-F,
+  StatementKind-F,
+  StringPart-F,
+  WhenCondition-F,
+  Block-F,
+  CatchBlock-F,
+  Expression-F,
+  LambdaLiteral-F,
+  Statement-F,
+  WhenEntry-F,
+}
+use Rattle.kt_tree.specs.declared.bodies.ControlStructureBody.TheFolds.{
+  fold-ControlStructureBody,
+  fold-StringPart,
+  fold-WhenCondition,
+  fold-Block,
+  fold-CatchBlock,
+  fold-Expression,
+  fold-LambdaLiteral,
+  fold-Statement,
+  fold-WhenEntry,
+}
 use Rattle.kt_tree.specs.Types.{TypeTree, type_tree, maybe_type}
 
 -- a parameter of a lambda literal

@@ -8,9 +8,43 @@ use Rattle.kt_tree.specs.declared.bodies.TextPart.{TextPart}
 use Rattle.kt_tree.specs.Types as t
 use Rattle.kt_tree.specs.Types.{TypeTree, TypeTrees}
 use Rattle.kt_tree.specs.Bodies as e
-use Rattle.kt_tree.specs.Bodies.{ExpressionTree, ExpressionTrees, MaybeExpression, PartTree, PartTrees, LambdaTree, EntryTree, EntryTrees, ConditionTree, ConditionTrees, CatchTree, CatchTrees, BodyTree, MaybeBody, BlockTree, MaybeBlock, StatementTree, StatementTrees, ParameterTree}
+use Rattle.kt_tree.specs.Bodies.{
+  ExpressionTree,
+  ExpressionTrees,
+  MaybeExpression,
+  PartTree,
+  PartTrees,
+  LambdaTree,
+  EntryTree,
+  EntryTrees,
+  ConditionTree,
+  ConditionTrees,
+  CatchTree,
+  CatchTrees,
+  BodyTree,
+  MaybeBody,
+  BlockTree,
+  MaybeBlock,
+  StatementTree,
+  StatementTrees,
+  ParameterTree,
+}
 use Rattle.kt_tree.specs.Declarations as d
-use Rattle.kt_tree.specs.Declarations.{TypeParameterTree, TypedParameterTree, FunctionBodyTree, FunctionTree, ConstructorParameterTree, SuperArgumentsTree, SupertypeTree, PropertyTree, MemberTree, ClassTree, InterfaceTree, ConstantTree, DeclarationTree}
+use Rattle.kt_tree.specs.Declarations.{
+  TypeParameterTree,
+  TypedParameterTree,
+  FunctionBodyTree,
+  FunctionTree,
+  ConstructorParameterTree,
+  SuperArgumentsTree,
+  SupertypeTree,
+  PropertyTree,
+  MemberTree,
+  ClassTree,
+  InterfaceTree,
+  ConstantTree,
+  DeclarationTree,
+}
 
 -- the greatest number, and 0 of none
 abbrev pub most : List ℕ → ℕ

@@ -3,7 +3,21 @@
 //! A node has a stage by itself, or 0 where it asks for none, and a tree has the greatest of its nodes'. Stage 9 has
 //! the coroutines, 8 lambdas and exceptions, 4 classes and generics. A file has at least stage 3.
 
-ghost use Rattle.kt_tree.specs.Bodies.{expression_tree, statement_tree, block_tree, body_tree, part_tree, condition_tree, entry_tree, catch_tree, expressions_of, parts_of, conditions_of, entries_of, catches_of};
+ghost use Rattle.kt_tree.specs.Bodies.{
+  expression_tree,
+  statement_tree,
+  block_tree,
+  body_tree,
+  part_tree,
+  condition_tree,
+  entry_tree,
+  catch_tree,
+  expressions_of,
+  parts_of,
+  conditions_of,
+  entries_of,
+  catches_of,
+};
 ghost use Rattle.kt_tree.specs.Bodies.{parameter_tree};
 ghost use Rattle.kt_tree.specs.Levels.{most};
 ghost use Rattle.kt_tree.specs.Stages as spec;

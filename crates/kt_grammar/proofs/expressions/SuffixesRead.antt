@@ -1,5 +1,28 @@
 -- What follows a primary is read exactly: calls, elements, members, `!!`.
-use Rattle.std.proofs.Common.{not, ◌≡◌, ℕ, suc, ◌<◌, Bool, true, false, ◌||◌, List, [], ◌∷◌, ◌++◌, length, length-append, None, refl, ap, arith, inl, inr, ◌⊎◌}
+use Rattle.std.proofs.Common.{
+  not,
+  ◌≡◌,
+  ℕ,
+  suc,
+  ◌<◌,
+  Bool,
+  true,
+  false,
+  ◌||◌,
+  List,
+  [],
+  ◌∷◌,
+  ◌++◌,
+  length,
+  length-append,
+  None,
+  refl,
+  ap,
+  arith,
+  inl,
+  inr,
+  ◌⊎◌,
+}
 use Rattle.kt_tree.specs.declared.tokens.Token.{Token}
 use Rattle.kt_tree.specs.declared.tokens.TokenKind.{TokenKind}
 use Rattle.kt_tree.specs.declared.tokens.TokenKind.TheVariants as kind
@@ -17,9 +40,28 @@ use Rattle.kt_base.specs.declared.refusals.Pos.{Pos}
 use Rattle.kt_grammar.specs.declared.context.Context.{Context}
 use Rattle.kt_grammar.specs.Types.{IsType}
 use Rattle.kt_grammar.specs.Readers.{commas, maybe_commas, meant, type_parser}
-use Rattle.kt_grammar.specs.Expressions.{IsArguments, IsCall, IsCallOf, IsPlainCall, IsElement, IsMember, IsTypeArgumentsOfCall, SuffixTurn}
+use Rattle.kt_grammar.specs.Expressions.{
+  IsArguments,
+  IsCall,
+  IsCallOf,
+  IsPlainCall,
+  IsElement,
+  IsMember,
+  IsTypeArgumentsOfCall,
+  SuffixTurn,
+}
 use Rattle.kt_grammar.specs.Expressions as x
-use Rattle.kt_grammar.specs.ExpressionParser.{Parsers, arguments_rest, call_parser, call_of, plain_call, element, member, type_arguments_of_call, suffix_turn}
+use Rattle.kt_grammar.specs.ExpressionParser.{
+  Parsers,
+  arguments_rest,
+  call_parser,
+  call_of,
+  plain_call,
+  element,
+  member,
+  type_arguments_of_call,
+  suffix_turn,
+}
 use Rattle.kt_grammar_parsers.proofs.Steps.{Any}
 use Rattle.kt_grammar_parsers.proofs.Forms.{comma_list_correct, comma_list_phrase}
 use Rattle.kt_grammar.proofs.types.TypesRead.{TypeEnds, a_sign, greater_ends, types_correct}
@@ -31,11 +73,40 @@ use Rattle.kt_grammar.proofs.parts.Choices.{past_then, room_goes, room_stops}
 use Rattle.kt_grammar.proofs.parts.Optionals.{on_room_before}
 use Rattle.kt_grammar.proofs.levels.Room.{room_left}
 use Rattle.kt_grammar_parsers.proofs.Optional.{not_reads, token_begins}
-use Rattle.kt_grammar.proofs.tokens.Begins.{kind_begins_expression, of_kind, Begins, begins_eats, begins_not_read, first_yes, seq_begins_with, either_begins_with}
+use Rattle.kt_grammar.proofs.tokens.Begins.{
+  kind_begins_expression,
+  of_kind,
+  Begins,
+  begins_eats,
+  begins_not_read,
+  first_yes,
+  seq_begins_with,
+  either_begins_with,
+}
 use Rattle.kt_grammar.proofs.parts.Below.{ReadsBelow, Halts}
 use Rattle.kt_grammar.proofs.parts.Left.{read_part, not_ahead, next_left, commas_part, on_left}
-use Rattle.kt_grammar.proofs.tokens.Witnesses.{sign_is, sign_then, close_then, closes_at, parenthesis_ends, bracket_ends, at_sign, sign_begins, begins_no_sign, name_part, name_no_line}
-use Rattle.kt_grammar.proofs.parts.Firsts.{past_begins, meant_begins, ahead_part, room_before, room_eats, seq_eats, turn_eats_by}
+use Rattle.kt_grammar.proofs.tokens.Witnesses.{
+  sign_is,
+  sign_then,
+  close_then,
+  closes_at,
+  parenthesis_ends,
+  bracket_ends,
+  at_sign,
+  sign_begins,
+  begins_no_sign,
+  name_part,
+  name_no_line,
+}
+use Rattle.kt_grammar.proofs.parts.Firsts.{
+  past_begins,
+  meant_begins,
+  ahead_part,
+  room_before,
+  room_eats,
+  seq_eats,
+  turn_eats_by,
+}
 
 parenthesis_no_comma : (t : Token) → is_sign sign.CloseParenthesis t ≡ true → is_sign sign.Comma t ≡ false
 unfolding same_sign
