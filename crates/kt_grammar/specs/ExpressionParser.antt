@@ -173,12 +173,18 @@ module _ (room : ℕ) (below : Parsers) (at : Context) where
       (next_part ps >>= (λ p. pure (inl (ps ++ p ∷ []))))
 
   abbrev pub lambda_head : Parser Token (List ParameterTree)
-  lambda_head = several_items (pure tt) below.parameter >>= (λ ps. lines >> (expect sign.Arrow >> pure ps))
+  lambda_head = do
+    ps ← several_items (pure tt) below.parameter
+    lines
+    expect sign.Arrow
+    pure ps
 
   abbrev pub lambda_rest : Token → Parser Token ExpressionTree
-  lambda_rest t = lines
-      >> (attempt_if deep lambda_head (λ ps. pure ps) (pure [])
-      >>= (λ ps. block_rest (below.statement in_lambda) >>= (λ b. pure (e.lambda t.pos (e.lambda_of ps b)))))
+  lambda_rest t = do
+    lines
+    ps ← attempt_if deep lambda_head (λ ps. pure ps) (pure [])
+    b ← block_rest (below.statement in_lambda)
+    pure (e.lambda t.pos (e.lambda_of ps b))
 
   abbrev pub lambda_parser : Parser Token ExpressionTree
   lambda_parser = expect sign.OpenBrace >>= lambda_rest
@@ -188,27 +194,42 @@ module _ (room : ℕ) (below : Parsers) (at : Context) where
       (lines >> token (is_keyword word.Else)) >> (lines >> ahead is_no_arrow)
 
   abbrev pub if_rest : Token → Parser Token ExpressionTree
-  if_rest t = expect sign.OpenParenthesis
-      >> (below.disjunction at >>= (λ a. expect sign.CloseParenthesis >> (lines >> (below.body at >>= (λ b.
-      attempt else_word (λ _. below.body at >>= (λ c. pure (e.if_else t.pos a b (e.some_body c))))
-      (pure (e.if_else t.pos a b e.no_body)))))))
+  if_rest t = do
+    expect sign.OpenParenthesis
+    a ← below.disjunction at
+    expect sign.CloseParenthesis
+    lines
+    b ← below.body at
+    attempt else_word (λ _. below.body at >>= (λ c. pure (e.if_else t.pos a b (e.some_body c))))
+        (pure (e.if_else t.pos a b e.no_body))
 
   abbrev pub subject : Parser Token (Option ExpressionTree)
   subject = on_if deep (is_sign sign.OpenParenthesis)
       (λ _. below.disjunction at >>= (λ a. expect sign.CloseParenthesis >> pure (Some a))) (pure None)
 
   abbrev pub when_rest : Token → Parser Token ExpressionTree
-  when_rest t = subject
-      >>= (λ a. lines >> (expect sign.OpenBrace
-      >> (separated (is_sign sign.CloseBrace) (below.entry at (is_some a))
-      >>= (λ es. pure (e.when t.pos (maybe_expression a) (entries_of es.0))))))
+  when_rest t = do
+    a ← subject
+    lines
+    expect sign.OpenBrace
+    es ← separated (is_sign sign.CloseBrace) (below.entry at (is_some a))
+    pure (e.when t.pos (maybe_expression a) (entries_of es.0))
 
   abbrev pub catch_head : Parser Token Token
-  catch_head = lines >> (token (is_soft_keyword soft.Catch)
-      >> (expect sign.OpenParenthesis >> (token is_identifier >>= (λ x. expect sign.Colon >> pure x))))
+  catch_head = do
+    lines
+    token (is_soft_keyword soft.Catch)
+    expect sign.OpenParenthesis
+    x ← token is_identifier
+    expect sign.Colon
+    pure x
 
   abbrev pub finally_head : Parser Token Token
-  finally_head = lines >> (token (is_soft_keyword soft.Finally) >> (lines >> expect sign.OpenBrace))
+  finally_head = do
+    lines
+    token (is_soft_keyword soft.Finally)
+    lines
+    expect sign.OpenBrace
 
   abbrev pub catch_turn : List CatchTree → Parser Token (List CatchTree ⊎ List CatchTree)
   catch_turn cs = attempt_if deep catch_head (λ x. below.catch at (name_of x) >>= (λ c. pure (inl (cs ++ c ∷ []))))
@@ -219,10 +240,13 @@ module _ (room : ℕ) (below : Parsers) (at : Context) where
   no_finally start b (c ∷ cs) = pure (e.try_catch start b (catches_of (c ∷ cs)) e.no_block)
 
   abbrev pub try_rest : Token → Parser Token ExpressionTree
-  try_rest t = lines >> (block_of (below.statement at) >>= (λ b. repeat catch_turn [] >>= (λ cs.
-      attempt finally_head
-      (λ _. block_rest (below.statement at) >>= (λ f. pure (e.try_catch t.pos b (catches_of cs) (e.some_block f))))
-      (no_finally t.pos b cs))))
+  try_rest t = do
+    lines
+    b ← block_of (below.statement at)
+    cs ← repeat catch_turn []
+    attempt finally_head
+        (λ _. block_rest (below.statement at) >>= (λ f. pure (e.try_catch t.pos b (catches_of cs) (e.some_block f))))
+        (no_finally t.pos b cs)
 
   abbrev pub primary : Parser Token ExpressionTree
   primary = on_if deep (is_sign sign.OpenParenthesis)
@@ -269,9 +293,11 @@ module _ (room : ℕ) (below : Parsers) (at : Context) where
   member a safe = lines >> (token is_identifier >>= (λ x. pure (inl (e.member (place a) a safe (name_of x)))))
 
   abbrev pub type_arguments_of_call : Parser Token (List TypeTree × Pos)
-  type_arguments_of_call =
-      expect sign.Less
-      >>= (λ t. commas (is_sign sign.Greater) (type_parser room) >>= (λ ts. ahead opens_arguments >> pure (ts, t.pos)))
+  type_arguments_of_call = do
+    t ← expect sign.Less
+    ts ← commas (is_sign sign.Greater) (type_parser room)
+    ahead opens_arguments
+    pure (ts, t.pos)
 
   abbrev pub suffix_turn : ExpressionTree → Parser Token (ExpressionTree ⊎ ExpressionTree)
   suffix_turn a = attempt_if (ends_in_name a) type_arguments_of_call (call_of a)
