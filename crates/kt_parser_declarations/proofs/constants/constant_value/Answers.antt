@@ -9,4 +9,4 @@ pub returns-in_ok-literal_value-in-None : goal.returns-in_ok-literal_value-in-No
 returns-in_ok-literal_value-in-None c = on_passes _ _ _ _ _ _ c.in-None.ensures c.in_ok-literal_value-in-None.ensures
 
 pub returns-in_err-literal_value-in-None : goal.returns-in_err-literal_value-in-None
-returns-in_err-literal_value-in-None c = stopped _ _ _ (on_passes _ _ _ _ _ _ c.in-None.ensures c.in_err-literal_value-in-None.ensures) _ c.from_residual-in_err-literal_value-in-None.ensures.0
+returns-in_err-literal_value-in-None c = stopped _ _ _ (on_passes _ _ _ _ _ _ c.in-None.ensures c.in_err-literal_value-in-None.ensures) _ c.from_residual.ensures.0
