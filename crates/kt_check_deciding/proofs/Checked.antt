@@ -14,7 +14,7 @@ use Rattle.kt_check_rules.specs.Literals.{behind_minus}
 use Rattle.kt_check_rules.specs.Calls.{callable, count}
 use Rattle.kt_check_rules.specs.Conditionals.{NoLines}
 use Rattle.kt_check_rules.specs.Assignments.{applied_by}
-use Rattle.kt_check_rules.specs.Rules.{Typed, TypedAll, TypedParts, TypedPart, TypedEntries, TypedConditions, TypedCondition, TypedBlockLines, TypedBody, TypedBlock, TypedElse, TypedSingle, TypedLines, TypedStatement, TypedLocal, TypedAssignment, TypedStep, suffix_of}
+use Rattle.kt_check_rules.specs.Rules.{Typed, TypedAll, TypedParts, TypedPart, TypedEntries, TypedConditions, TypedCondition, TypedBlockLines, TypedBody, TypedBlock, TypedElse, TypedSingle, TypedLines, TypedStatement, TypedLocal, TypedAssignment, TypedStep}
 use Rattle.kt_check_deciding.specs.Blocks.{no_lines}
 use Rattle.kt_check_deciding.specs.Checked.{checked, checked_all, checked_parts, checked_part, checked_entries, checked_conditions, checked_condition, checked_block_lines, checked_body, checked_block, checked_else, checked_single, checked_lines, checked_statement, checked_local, checked_assignment, checked_step}
 use Rattle.kt_check_deciding.proofs.Deciding.{Decides, DecidesAt}
@@ -53,15 +53,15 @@ module _ (all : Bool) (K : Context) (ends : ClassesEnd (hierarchy K)) where
     expression (index at a i) =
         later_decided all _ _
         (elements_decided (Typed K a) (Typed K i) (checked all K a) (checked all K i) (expression a) (expression i))
-    expression (call at (name place x) ts es) =
+    expression (call at (name place x) start ts es) =
         calls_named_decided all x _ _
-        (calls_decided (callable K x ts (count es)) (TypedAll K es) (checked_all all K es) (suffix_of at)
+        (calls_decided (callable K x ts (count es)) (TypedAll K es) (checked_all all K es) start
         (arguments es))
-    expression (call at (member place e is_safe x) ts es) =
+    expression (call at (member place e is_safe x) start ts es) =
         later_decided all _ _
         (method_calls_decided K (Typed K e) (checked all K e) is_safe x ts (count es) (TypedAll K es)
-        (checked_all all K es) (suffix_of at) (expression e) (arguments es))
-    expression (call at f ts es) = unruled_decided all
+        (checked_all all K es) start (expression e) (arguments es))
+    expression (call at f start ts es) = unruled_decided all
     expression (if_else at e x y) =
         ifs_decided K ends (Typed K e) (TypedBody K x) (TypedElse K y) (checked all K e) (checked_body all K x)
         (checked_else all K y) (expression e) (branch x) (otherwise y)

@@ -25,7 +25,6 @@ use Rattle.kt_check_rules.specs.Calls.{Wanted, of_type as type_wanted, printed a
 use Rattle.kt_check_rules.specs.Assignments.{Combination, applied_by, has_old, may_assign}
 use Rattle.kt_check_rules.specs.Kinds.{is_testable, is_unit, width_of}
 use Rattle.kt_check_rules.specs.Conditionals.{no_subject, shown_subject}
-use Rattle.kt_check_rules.specs.Rules.{suffix_of}
 use Rattle.kt_check_deciding.specs.Outcomes.{Outcome, found, none, Decision, DecisionAt, then_go, only_if, there, gives_some, gives_if, unruled, unruled_at, later, later_at}
 use Rattle.kt_check_deciding.specs.Choosing.{taken, typed_by, chosen_by}
 use Rattle.kt_check_deciding.specs.Expressions.{Typings, literals, names, prefixes, operations, equalities, connectives, elvises, binaries, Arguments, argument, no_arguments, more_arguments, calls}
@@ -510,15 +509,15 @@ module _ (K : Context) where
     expression (member at e n x) = now _ (members_total K (checked true K e) n x (expression e))
     expression (index at a i) =
         now _ (elements_total (checked true K a) (checked true K i) (expression a) (expression i))
-    expression (call at (name place x) ts es) = record {
+    expression (call at (name place x) start ts es) = record {
       all = λ s w.
-          (calls_total (callable K x ts (count es)) (checked_all true K es) (suffix_of at) (arguments es)).all s w;
+          (calls_total (callable K x ts (count es)) (checked_all true K es) start (arguments es)).all s w;
     }
-    expression (call at (member place e n x) ts es) =
+    expression (call at (member place e n x) start ts es) =
         now _
-        (method_calls_total K (checked true K e) n x ts (count es) (checked_all true K es) (suffix_of at)
+        (method_calls_total K (checked true K e) n x ts (count es) (checked_all true K es) start
         (expression e) (arguments es))
-    expression (call at f ts es) = unruled_total
+    expression (call at f start ts es) = unruled_total
     expression (if_else at e x y) =
         ifs_total K (checked true K e) (checked_body true K x) (checked_else true K y) (expression e) (branch x)
         (otherwise y)

@@ -14,7 +14,6 @@ use Rattle.kt_check_rules.specs.States.{Context, meaning}
 use Rattle.kt_check_rules.specs.Literals.{behind_minus}
 use Rattle.kt_check_rules.specs.Calls.{callable, count}
 use Rattle.kt_check_rules.specs.Assignments.{applied_by}
-use Rattle.kt_check_rules.specs.Rules.{suffix_of}
 use Rattle.kt_check_deciding.specs.Outcomes.{Decision, DecisionAt, unruled, unruled_at, later, later_at}
 use Rattle.kt_check_deciding.specs.Expressions.{Typings, literals, names, prefixes, binaries, Arguments, no_arguments, more_arguments, calls, calls_named}
 use Rattle.kt_check_deciding.specs.Blocks.{LineForms, no_lines, line_then, last_line, evaluations, blocks, ElseForm, no_else, elses, ifs}
@@ -38,11 +37,11 @@ abbrev mutual
   checked all K (not_null at e) = later all (not_nulls K (checked all K e))
   checked all K (member at e is_safe x) = later all (members K (checked all K e) is_safe x)
   checked all K (index at a i) = later all (elements (checked all K a) (checked all K i))
-  checked all K (call at (name place x) ts es) =
-      calls_named all x (calls (callable K x ts (count es)) (checked_all all K es) (suffix_of at))
-  checked all K (call at (member place e is_safe x) ts es) =
-      later all (method_calls K (checked all K e) is_safe x ts (count es) (checked_all all K es) (suffix_of at))
-  checked all K (call at f ts es) = unruled all
+  checked all K (call at (name place x) start ts es) =
+      calls_named all x (calls (callable K x ts (count es)) (checked_all all K es) start)
+  checked all K (call at (member place e is_safe x) start ts es) =
+      later all (method_calls K (checked all K e) is_safe x ts (count es) (checked_all all K es) start)
+  checked all K (call at f start ts es) = unruled all
   checked all K (if_else at e x y) = ifs K (checked all K e) (checked_body all K x) (checked_else all K y)
   checked all K (when at no_expression es) = later all (whens_without K (checked_entries all K es))
   checked all K (when at (some_expression e) es) = later all (whens K (checked all K e) (checked_entries all K es))
