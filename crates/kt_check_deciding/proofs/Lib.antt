@@ -12,3 +12,4 @@ pub mod Checked
 pub mod Files
 pub mod Settled
 pub mod OneOfTwo
+pub mod Present

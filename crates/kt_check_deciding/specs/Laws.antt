@@ -2,6 +2,10 @@
 use Rattle.std.specs.Prelude.{Bool, true, ◌≡◌, ◌⊎◌}
 use Rattle.kt_base.specs.declared.refusals.Pos.{Pos}
 use Rattle.kt_types_order.specs.Graph.{ClassesEnd}
+use Rattle.kt_types.specs.Null.{IsWithoutNull}
+use Rattle.kt_types_tree.specs.Hierarchy.{HierarchyForm}
+use Rattle.kt_types_tree.specs.Types.{TypeForm}
+use Rattle.kt_check_rules.specs.Kinds.{present_type}
 use Rattle.kt_typed.specs.Units.{UnitForm}
 use Rattle.kt_check_rules.specs.Units.{File, IsUnit, has_main}
 use Rattle.kt_check_rules.specs.Place.{IsRefused}
@@ -25,3 +29,8 @@ IsTypedOrRefused f = ((u : UnitForm) × (IsUnit f u × (has_main f ≡ true))) �
 -- Each file is typed or refused. By the laws of the rules it isn't both, and there is one unit, or one place.
 abbrev pub OneOfTwo : Type 0
 OneOfTwo = (f : File) → ClassesEnd f.headers.hierarchy → IsTypedOrRefused f
+
+-- what `!= null` gives of a type is the type without null
+abbrev pub PresentIsWithoutNull : Type 0
+PresentIsWithoutNull =
+    (h : HierarchyForm) → ClassesEnd h → (t : TypeForm) → IsWithoutNull h t (present_type h t)
