@@ -11,8 +11,8 @@ use Rattle.jvm_class_formats.specs.Formats.{Spot, spot, Format, any, number, u2,
 use Rattle.jvm_class_formats.specs.Lawful.{Takes, Lawful, IsPool}
 use Rattle.jvm_class_formats.proofs.Steps.{done, done_is, some_is, byte, half, takes_nothing}
 use Rattle.jvm_class_formats.proofs.Parts.{lawful_number, lawful_seq, lawful_as, lawful_variant, lawful_times, lawful_counted}
-use Rattle.jvm_maps.specs.Types.{same_types, any_tag, frame_type}
-use Rattle.jvm_maps.specs.Frames.{step, Form, Same, SameOne, SameOneFar, Chop, SameFar, Append, Full, meaning, lacks, has_more, one_to_three, appended, chopped, form_with, Kind, IsSame, IsSameOne, IsSameOneFar, IsChop, IsSameFar, IsAppend, IsFull, kind_of, kind_tag, tagged, same_inside, same_one_inside, same_one_far_inside, chop_inside, same_far_inside, append_inside, full_inside, nothing, behind_kind, behind, form, same_form}
+use Rattle.jvm_maps.specs.Types.{same_types, frame_type}
+use Rattle.jvm_maps.specs.Frames.{step, Form, Same, SameOne, SameOneFar, Chop, SameFar, Append, Full, meaning, lacks, has_more, one_to_three, appended, chopped, form_with, Kind, IsSame, IsSameOne, IsSameOneFar, IsChop, IsSameFar, IsAppend, IsFull, kind_of, kind_tag, tagged, is_frame_tag, same_inside, same_one_inside, same_one_far_inside, chop_inside, same_far_inside, append_inside, full_inside, nothing, behind_kind, behind, form, same_form}
 use Rattle.jvm_maps.specs.Laws.{FormMeans}
 use Rattle.jvm_maps.proofs.TypeLaws.{same_types_are, same_types_self, lawful_type}
 
@@ -214,7 +214,7 @@ module _ (es : List Entry) where
   }
 
   -- what stands behind a tag is of its kind
-  kind_kept : (k : Kind) (f : Form) → (behind_kind es k).allows f → kind_of f ≡ k
+  pub kind_kept : (k : Kind) (f : Form) → (behind_kind es k).allows f → kind_of f ≡ k
   kind_kept (IsSame d) f h = let x = opt nothing (same_inside d f) h in sym (ap kind_of (same_back d x.0 f x.1))
   kind_kept (IsSameOne d) f h =
       let x = opt (frame_type es) (same_one_inside d f) h in sym (ap kind_of (same_one_back d x.0 f x.1))
@@ -271,10 +271,10 @@ module _ (es : List Entry) where
     pub lawful_form : Lawful es (form es)
     lawful_form =
         lawful_as es (λ (x : ℕ × Form). x.1) (λ (f : Form). (kind_tag (kind_of f), f))
-        (seq (number w8 any_tag) (λ t. behind es (tagged t))) (λ f. refl)
+        (seq (number w8 is_frame_tag) (λ t. behind es (tagged t))) (λ f. refl)
         (λ x allowed.
         ap (λ (n : ℕ). (n, x.1)) (tag_parted x.0 (tagged x.0) x.1 refl allowed.1))
-        (lawful_seq es (number w8 any_tag) (λ t. behind es (tagged t)) (lawful_number es w8 any_tag byte)
+        (lawful_seq es (number w8 is_frame_tag) (λ t. behind es (tagged t)) (lawful_number es w8 is_frame_tag byte)
         (λ t _. lawful_behind (tagged t)))
 
 -- ---- the first form that fits stands for the frame

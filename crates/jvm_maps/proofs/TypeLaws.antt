@@ -14,7 +14,7 @@ use Rattle.jvm_class_formats.specs.Formats.{Spot, spot, Format, any, number, u2,
 use Rattle.jvm_class_formats.specs.Lawful.{Takes, Lawful, IsPool, Says}
 use Rattle.jvm_class_formats.proofs.Steps.{done, done_is, some_is, byte, half, takes_nothing}
 use Rattle.jvm_class_formats.proofs.Parts.{lawful_number, lawful_seq, lawful_as, lawful_variant, lawful_choose, lawful_mention}
-use Rattle.jvm_maps.specs.Types.{same_type, same_types, type_tag, bare_types, bare_type, bare_read, bare, class_inside, object_inside, uninitialized_inside, any_tag, class_name, behind_tag, frame_type}
+use Rattle.jvm_maps.specs.Types.{same_type, same_types, type_tag, bare_types, bare_type, bare_read, bare, class_inside, object_inside, uninitialized_inside, is_type_tag, class_name, behind_tag, frame_type}
 
 -- ---- the same type
 
@@ -147,7 +147,7 @@ module _ (es : List Entry) where
   pub lawful_type : IsPool es → Lawful es (frame_type es)
   lawful_type pool =
       lawful_as es (λ (x : ℕ × FrameType). x.1) (λ (t : FrameType). (type_tag t, t))
-      (seq (number w8 any_tag) (behind_tag es)) (λ t. refl)
+      (seq (number w8 is_type_tag) (behind_tag es)) (λ t. refl)
       (λ x allowed.
       ap (λ (n : ℕ). (n, x.1)) (tag_is x.0 x.1 allowed.1))
-      (lawful_seq es (number w8 any_tag) (behind_tag es) (lawful_number es w8 any_tag byte) (λ n _. lawful_behind pool n))
+      (lawful_seq es (number w8 is_type_tag) (behind_tag es) (lawful_number es w8 is_type_tag byte) (λ n _. lawful_behind pool n))

@@ -1,12 +1,12 @@
 -- Stack map frames (JVMS SE 8 §4.7.4): how each is written against the one before, and read.
-use Rattle.std.specs.Prelude.{◌≡◌, ℕ, zero, suc, ◌+◌, ◌-◌, ◌^◌, ◌<◌, Bool, true, false, ◌&&◌, List, [], ◌∷◌, ◌++◌, length, take, drop, Option, None, Some, Result, Ok, Err, nat_lt, nat_le, ◌==◌, if◌then◌else◌, find}
+use Rattle.std.specs.Prelude.{◌≡◌, ℕ, zero, suc, ◌+◌, ◌-◌, ◌^◌, ◌<◌, Bool, true, false, ◌&&◌, List, [], ◌∷◌, ◌++◌, length, take, drop, Option, None, Some, is_some, Result, Ok, Err, nat_lt, nat_le, ◌==◌, if◌then◌else◌, find}
 use Rattle.std.specs.Int.{w8}
 use Rattle.jvm_pool.specs.declared.entries.Entry.{Entry}
 use Rattle.jvm_pieces.specs.Pieces.{Piece}
 use Rattle.jvm_class_types.specs.declared.frames.FrameType.{FrameType}
 use Rattle.jvm_class_types.specs.Seen.{Frame}
 use Rattle.jvm_class_formats.specs.Formats.{Spot, here, Format, ◌>>=◌, number, u2, seq, as_named, variant, times, counted, item}
-use Rattle.jvm_maps.specs.Types.{same_types, any_tag, frame_type}
+use Rattle.jvm_maps.specs.Types.{same_types, frame_type}
 
 -- ---- a frame against the one before
 
@@ -112,6 +112,10 @@ tagged t =
     if nat_lt t 256 then Some IsFull else
     None
 
+-- whether a number is the tag of a frame
+abbrev pub is_frame_tag : ℕ → Bool
+is_frame_tag t = is_some (tagged t)
+
 -- ---- the bytes of a form
 
 abbrev pub same_inside : ℕ → Form → Option (Unit {0})
@@ -166,7 +170,7 @@ module _ (es : List Entry) where
 
   -- stack_map_frame, in whatever form
   abbrev pub form : Format Form
-  form = as_named (λ x. x.1) (λ f. (kind_tag (kind_of f), f)) (seq (number w8 any_tag) (λ t. behind (tagged t)))
+  form = as_named (λ x. x.1) (λ f. (kind_tag (kind_of f), f)) (seq (number w8 is_frame_tag) (λ t. behind (tagged t)))
 
 -- ---- the same form
 

@@ -1,5 +1,5 @@
 -- The types in stack map frames (JVMS SE 8 §4.7.4), as parts of a class file.
-use Rattle.std.specs.Prelude.{◌≡◌, ℕ, Bool, true, false, List, [], ◌∷◌, Option, None, Some, Result, Ok, Err, ◌==◌, find}
+use Rattle.std.specs.Prelude.{◌≡◌, ℕ, Bool, true, false, ◌||◌, List, [], ◌∷◌, Option, None, Some, is_some, Result, Ok, Err, ◌==◌, find}
 use Rattle.std.specs.Int.{w8}
 use Rattle.std.specs.Cmp.Lexicographic.{pointwise}
 use Rattle.jvm_pool.specs.declared.entries.Entry.{Entry}
@@ -59,8 +59,9 @@ abbrev pub uninitialized_inside : FrameType → Option ℕ
 uninitialized_inside (type.Uninitialized at) = Some at
 uninitialized_inside _ = None
 
-abbrev pub any_tag : ℕ → Bool
-any_tag tag = true
+-- whether a number is the tag of a type
+abbrev pub is_type_tag : ℕ → Bool
+is_type_tag tag = tag == item_object || (tag == item_uninitialized || is_some (bare_type tag))
 
 module _ (es : List Entry) where
   abbrev pub class_name : Format (List ℕ)
@@ -75,4 +76,4 @@ module _ (es : List Entry) where
 
   -- verification_type_info
   abbrev pub frame_type : Format FrameType
-  frame_type = as_named (λ x. x.1) (λ t. (type_tag t, t)) (seq (number w8 any_tag) behind_tag)
+  frame_type = as_named (λ x. x.1) (λ t. (type_tag t, t)) (seq (number w8 is_type_tag) behind_tag)
