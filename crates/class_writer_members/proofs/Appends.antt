@@ -21,7 +21,7 @@ pub four_parts : (o a b c d x y z u : List ℕ) → a ≡ o ++ x → b ≡ a ++ 
 four_parts o a b c d x y z u p q r s =
     two_parts o a d x (y ++ (z ++ (u ++ []))) p
     (two_parts a b d y (z ++ (u ++ [])) q (two_parts b c d z (u ++ []) r (s ∙ ap (λ (l : List ℕ). c ++ l) (sym
-        (append-nil u)))))
+    (append-nil u)))))
 
 pub three_and_more : (o a b c d x y z u : List ℕ) → a ≡ o ++ x → b ≡ a ++ y → c ≡ b ++ z → d ≡ c ++ u
     → d ≡ o ++ (x ++ (y ++ (z ++ u)))
@@ -64,4 +64,4 @@ pub counted_so : {X A : Type 0} (es : List Entry) (f : Format A) (seen : X → A
 counted_so es f seen xs old into new p q =
     two_parts old into new (to_be_bytes w16 (length xs)) (pieces es (flat_map f.spell (map seen xs))) p q
     ∙ ap (λ (n : ℕ). old ++ (to_be_bytes w16 n ++ pieces es (flat_map f.spell (map seen xs)))) (sym (length-map xs
-        seen))
+    seen))

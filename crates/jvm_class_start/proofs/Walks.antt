@@ -76,9 +76,9 @@ pub units_further : (n i units : ℕ) (bytes rest : List ℕ) (t : FieldType) (a
 units_further n i units bytes rest t all lt next so_far =
     let left : n - i ≡ suc (n - (i + 1)) = omega (arith, lt) in
     let step : units_of (types_before_close (n - i) bytes) ≡ type_units t + units_of (types_before_close (n - (i + 1))
-        rest) =
+    rest) =
     ap (λ (m : ℕ). units_of (types_before_close m bytes)) left ∙ ap units_of (types_step (n - (i + 1)) bytes rest t
-        next) in
+    next) in
     omega (arith, so_far, step)
 
 pub units_ended : (n units : ℕ) (bytes : List ℕ) (all : ℕ) → next_type bytes ≡ None
@@ -109,27 +109,27 @@ pub types_ended : (n : ℕ) (types : List FrameType) (bytes : List ℕ) (all : L
     → types ++ map in_frame (types_before_close n bytes) ≡ all → types ≡ all
 types_ended n types bytes all next so_far =
     sym (append-nil types) ∙ ap (λ (l : List FieldType). types ++ map in_frame l) (sym (types_end n bytes next)) ∙
-        so_far
+    so_far
 
 pub types_all : (n : ℕ) (types : List FrameType) (bytes : List ℕ) (all : List FrameType) → n ≡ 0
     → types ++ map in_frame (types_before_close n bytes) ≡ all → types ≡ all
 types_all n types bytes all none so_far =
     sym (append-nil types) ∙ ap (λ (l : List FieldType). types ++ map in_frame l) (sym (types_none n bytes none)) ∙
-        so_far
+    so_far
 
 -- none was read yet
 started : (n : ℕ) (d start : List ℕ) → start ≡ behind_first d → n ≡ length start
     → types_before_close (n - 0) start ≡ parameters d
 started n d start is len =
     ap (λ (m : ℕ). types_before_close m start) (omega (arith, len)) ∙ ap (λ (l : List ℕ). types_before_close (length
-        l) l) is
+    l) l) is
     ∙ sym (parameters_are d)
 
 pub units_started : (n : ℕ) (d start : List ℕ) → start ≡ behind_first d → n ≡ length start
     → 0 + units_of (types_before_close (n - 0) start) ≡ units_of (parameters d)
 units_started n d start is len =
     let same : units_of (types_before_close (n - 0) start) ≡ units_of (parameters d) = ap units_of (started n d start
-        is len) in
+    is len) in
     omega (arith, same)
 
 pub types_started : (n : ℕ) (types : List FrameType) (d start : List ℕ) → start ≡ behind_first d → n ≡ length start

@@ -12,7 +12,7 @@ use Rattle.class_reader_members.proofs.fields.some_fields.Goals as goal
 pub loop-i-preserved : goal.loop-i-preserved
 loop-i-preserved c =
     rw (c.in_ok-push.ensures.items, map_push field_seen _ _) (one_more (grammar.field c.args.pool.now) c.args.count
-        c.loop-i.i (map field_seen c.loop-i.fields.items)
+    c.loop-i.i (map field_seen c.loop-i.fields.items)
     c.loop-i.spot c.in_ok-field.behind (field_seen c.in_ok-field.field) _ (omega (arith, c.loop-i-test.true))
     c.in_ok-field.ensures c.loop-i.invariant)
 
@@ -27,5 +27,5 @@ returns-in_err-field c =
 pub returns : goal.returns
 returns c =
     all_read (grammar.field c.args.pool.now) c.args.count c.loop-i.i (map field_seen c.loop-i.fields.items)
-        c.loop-i.spot _
+    c.loop-i.spot _
     (omega (arith, c.loop-i-test.false)) c.loop-i.invariant

@@ -11,7 +11,7 @@ use Rattle.class_reader_members.proofs.interfaces.some_names.Goals as goal
 pub loop-i-preserved : goal.loop-i-preserved
 loop-i-preserved c =
     rw (c.in_ok-push.ensures.items) (one_more (types.class_name c.args.pool.now) c.args.count c.loop-i.i
-        c.loop-i.names.items
+    c.loop-i.names.items
     c.loop-i.spot c.in_ok-name.behind (c.in_ok-name.name) _ (omega (arith, c.loop-i-test.true))
     c.in_ok-name.ensures c.loop-i.invariant)
 

@@ -6,5 +6,5 @@ use Rattle.class_writer_members.proofs.fields.put_fields.Goals as goal
 pub returns : goal.returns
 returns c =
     counted_so c.args.pool.now (grammar.field c.args.pool.now) field_seen c.args.fields.now c.args.into.now.items
-        c.put_half.new.into.items
+    c.put_half.new.into.items
     c.put_each.new.into.items c.in_ok-put_half.ensures c.in_ok-put_each.ensures

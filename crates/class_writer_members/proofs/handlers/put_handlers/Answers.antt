@@ -6,5 +6,5 @@ use Rattle.class_writer_members.proofs.handlers.put_handlers.Goals as goal
 pub returns : goal.returns
 returns c =
     counted_so c.args.pool.now (grammar.handler c.args.pool.now) handler_seen c.args.handlers.now
-        c.args.into.now.items c.put_half.new.into.items
+    c.args.into.now.items c.put_half.new.into.items
     c.put_each.new.into.items c.in_ok-put_half.ensures c.in_ok-put_each.ensures

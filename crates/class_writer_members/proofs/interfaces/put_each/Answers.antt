@@ -8,6 +8,6 @@ pub loop-name-preserved : goal.loop-name-preserved
 loop-name-preserved c =
     each_plain c.args.pool.now (types.class_name c.args.pool.now).spell c.args.names.now c.loop-name.name-index
     c.name-item.result c.args.into.now.items c.loop-name.into.items c.put_class.new.into.items (omega arith)
-        c.name-item.is
+    c.name-item.is
     c.loop-name.invariant
     (c.in_ok-put_class.ensures ∙ ap (λ (l : List ℕ). c.loop-name.into.items ++ l) (sym (append-nil _)))

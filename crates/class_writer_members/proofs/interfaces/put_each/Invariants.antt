@@ -7,4 +7,4 @@ use Rattle.class_writer_members.proofs.interfaces.put_each.Given as goal
 abbrev pub invariant-loop-name : goal.invariant-loop-name
 invariant-loop-name l =
     l.into.items ≡ l.fn.into.items ++ pieces l.pool (flat_map (types.class_name l.pool).spell (take l.name-index
-        l.names))
+    l.names))

@@ -26,7 +26,7 @@ loop-i-preserved c = record {
   so_far = rw (c.in_ok-push-in-Some.ensures.items, c.in_ok-in_frame-in-Some.ensures)
       (types_further (length c.behind_open-start.result.now) c.loop-i.i c.loop-i.types.items c.loop-i.rest.now
       c.in-Some.behind.now (type_seen c.in-Some.found) _ (omega (arith, c.loop-i-test.true)) (sym
-          c.in-Some.ensures.value)
+      c.in-Some.ensures.value)
       c.loop-i.invariant.so_far);
   ascii = next_ascii c.loop-i.rest.now c.in-Some.behind.now (type_seen c.in-Some.found) (sym c.in-Some.ensures.value)
       c.loop-i.invariant.ascii;

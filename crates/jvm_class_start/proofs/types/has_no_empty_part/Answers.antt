@@ -7,5 +7,5 @@ pub returns : goal.returns
 returns c =
     all_from_yields_List (λ part. nat_lt 0 (length part)) _ _ c.all.result c.all.ensures.ran
     (YieldsList-from_slice_split _ _ c.args.name.now c.split.ensures.rest c.split.ensures.done c.split.ensures.closure
-        (λ x b q k. search (rules, tests)))
+    (λ x b q k. search (rules, tests)))
     (λ x b q k. search (rules, tests))
