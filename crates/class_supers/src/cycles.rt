@@ -3,7 +3,7 @@
 ghost use Rattle.class_supers.specs.Graph.{AreAllSupers, HasNoCycle, IsFirstOnCycle};
 ghost use Rattle.class_supers.specs.Graph.{IsAboveItself, reaches, row_or_none};
 ghost use Rattle.std.specs.List.{list_any};
-ghost use Rattle.std.specs.Prelude.{◌≡◌, ◌==◌, ◌↔◌, ◌<◌, IsTrue, MatchOption, length, slice_get};
+ghost use Rattle.std.specs.Prelude.{◌≡◌, ◌==◌, ◌↔◌, ◌<◌, IfSome, IsTrue, MatchOption, length, slice_get};
 
 use sqlite_items::{Items, at};
 
@@ -58,7 +58,8 @@ fn leads_back(graph: &[Items<usize>], rows: &[Items<usize>], row: usize) -> bool
 /// The first row that reaches itself by one step or more: `None` exactly where none does.
 pub fn first_on_cycle(graph: &[Items<usize>], rows: &[Items<usize>]) -> Option<usize>
     requires { AreAllSupers graph.now rows.now }
-    ensures { MatchOption result (HasNoCycle graph.now) (IsFirstOnCycle graph.now) }
+    ensures first { MatchOption result (HasNoCycle graph.now) (IsFirstOnCycle graph.now) }
+    ensures within { IfSome result (λ row. row < length graph.now) }
 {
     for row in 0..graph.len() {
         if leads_back(graph, rows, row) {

@@ -8,7 +8,7 @@ loop-row-preserved c =
     none_before (IsAboveItself c.args.graph.now) c.loop-row.row c.loop-row.invariant
     (λ a. not_both (c.leads_back.ensures.1 a) c.if-leads_back.false)
 
-pub returns : goal.returns
-returns c =
+pub returns-clause-first : goal.returns-clause-first
+returns-clause-first c =
     none_at_all c.args.graph.now c.loop-row.row (let t = c.loop-row-test.false in omega arith)
     c.loop-row.invariant
