@@ -77,7 +77,7 @@ module _ (es : List Entry) where
       ap (λ (e : Option Entry). pieces es (mention_pieces es i.0 i.1.opcode i.1.operands e)) names.1
       ∙ mention_bytes i.0 i.1.opcode i.1.operands k names.0 is names.1
 
-  bytes_are : (is : List (ℕ × Row)) → AllByRecursion (Names es) is → pieces es (flat_map (row_pieces es) is) ≡ spelling is
+  pub bytes_are : (is : List (ℕ × Row)) → AllByRecursion (Names es) is → pieces es (flat_map (row_pieces es) is) ≡ spelling is
   bytes_are [] names = refl
   bytes_are (i ∷ is) names =
       pieces-append es (row_pieces es i) (flat_map (row_pieces es) is)

@@ -28,6 +28,10 @@ pub record IsClassFile (bytes : List ℕ) (es : List Entry) (c : Class) : Type 0
   pub spells : Spells es behind ((class es).spell c)
   pub bytes_are : bytes ≡ head_bytes ++ (pool es ++ behind)
 
+-- a class with this pool has a class file
+abbrev pub HasClassFile : List Entry → Class → Type 0
+HasClassFile es c = (bytes : List ℕ) × IsClassFile bytes es c
+
 -- ---- reading
 
 -- a surplus byte is refused at its own offset, and a counter that falls short at the file's length

@@ -34,7 +34,7 @@ AreTyped ds = (ys : List StatementForm) × (end : State) × AreDirects K ds empt
 -- `val a = IntArray(3)`, `for (i in 0 until a.size) { a[i] += i` and `a[i]++ }`
 abbrev arrays_tree : List Direct
 arrays_tree = statement (local (at 0 0) false (codes "a") None (some_expression (call (at 0 0) (name (at 0 0)
-    (codes "IntArray")) [] (expression_then (number 3 false) expressions_end)))) ∷ statement (for (at 0 0)
+    (codes "IntArray")) (at 0 0) [] (expression_then (number 3 false) expressions_end)))) ∷ statement (for (at 0 0)
     (codes "i") (number 0 false) range.Until (member (at 0 0) (name (at 0 0) (codes "a")) false (codes "size"))
     (braces (block (statement_then (assign (at 0 0) (index (at 0 0) (name (at 0 0) (codes "a")) (name (at 0 0)
     (codes "i"))) by.Add (name (at 0 0) (codes "i"))) (statement_then (step (at 0 0) (index (at 0 0)
@@ -192,7 +192,7 @@ both_branches_tree = statement (local (at 0 0) false (codes "x") (Some (type.nam
     no_expression) ∷ statement (evaluate (at 0 0) (if_else (at 0 0) (literal (at 0 0) written.True)
     (single (assign (at 0 0) (name (at 0 0) (codes "x")) by.Set (number 1 false)))
     (some_body (single (assign (at 0 0) (name (at 0 0) (codes "x")) by.Set (number 2 false))))))
-    ∷ statement (evaluate (at 0 0) (call (at 0 0) (name (at 0 0) (codes "println"))
+    ∷ statement (evaluate (at 0 0) (call (at 0 0) (name (at 0 0) (codes "println")) (at 0 0)
     [] (expression_then (name (at 0 0) (codes "x")) expressions_end))) ∷ []
 
 both_branches : AreTyped both_branches_tree
@@ -552,7 +552,7 @@ by_type_tree = statement (local (at 0 0) false (codes "x") (Some (type.named (co
     (some_expression (number 1 false))) ∷ statement (evaluate (at 0 0) (when (at 0 0)
     (some_expression (name (at 0 0) (codes "x")))
     (entry_then (entry (condition_then (of_type false (type.named (codes "Int") type.types_end)) conditions_end)
-    (single (evaluate (at 0 0) (call (at 0 0) (name (at 0 0) (codes "println"))
+    (single (evaluate (at 0 0) (call (at 0 0) (name (at 0 0) (codes "println")) (at 0 0)
     [] (expression_then (binary (at 0 0) o.Plus (name (at 0 0) (codes "x")) (number 1 false))
     expressions_end))))) entries_end))) ∷ []
 

@@ -5,7 +5,7 @@ mod OnceBlocks
 mod OnceLoops
 mod OnceRules
 mod OnceBodies
-mod Placed
+pub mod Placed
 mod Worked
 mod Examples
 mod Forms

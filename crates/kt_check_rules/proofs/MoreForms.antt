@@ -40,8 +40,8 @@ safe_tree = statement (local (at 0 0) false (codes "s") (Some (type.nullable (ty
     ∷ statement (local (at 0 0) false (codes "t") (Some (type.nullable (type.named (codes "String")
     type.types_end))) (some_expression (cast (at 0 0) (name (at 0 0) (codes "s"))
     true (type.named (codes "String") type.types_end)))) ∷ statement (evaluate (at 0 0) (call (at 0 0)
-    (name (at 0 0) (codes "println")) [] (expression_then (call (at 0 0) (member (at 0 0) (not_null (at 0 0)
-    (name (at 0 0) (codes "s"))) false (codes "substring")) [] (expression_then (number 0 false)
+    (name (at 0 0) (codes "println")) (at 0 0) [] (expression_then (call (at 0 0) (member (at 0 0) (not_null (at 0 0)
+    (name (at 0 0) (codes "s"))) false (codes "substring")) (at 0 0) [] (expression_then (number 0 false)
     (expression_then (number 1 false) expressions_end))) expressions_end))) ∷ []
 
 safe : AreTyped safe_tree
@@ -217,7 +217,7 @@ breaks_tree = statement (local (at 0 0) false (codes "x") (Some (type.nullable (
     (literal (at 0 0) written.True) (braces (block (statement_then (evaluate (at 0 0) (if_else (at 0 0)
     (binary (at 0 0) o.NotEqual (name (at 0 0) (codes "x")) (literal (at 0 0) written.Null))
     (single (evaluate (at 0 0) (break (at 0 0)))) no_body)) statements_end) (at 0 0))))
-    ∷ statement (evaluate (at 0 0) (call (at 0 0) (name (at 0 0) (codes "println"))
+    ∷ statement (evaluate (at 0 0) (call (at 0 0) (name (at 0 0) (codes "println")) (at 0 0)
     [] (expression_then (binary (at 0 0) o.Plus (name (at 0 0) (codes "x")) (number 1 false)) expressions_end)))
     ∷ []
 
@@ -501,7 +501,7 @@ numbers_tree = statement (local (at 0 0) true (codes "l") (Some (type.named (cod
     (name (at 0 0) (codes "l")) by.Add (number 2 false)) ∷ statement (local (at 0 0) false (codes "b")
     None (some_expression (prefix (at 0 0) before.Not (parenthesized (at 0 0) (binary (at 0 0)
     o.Conjunction (binary (at 0 0) o.Less (name (at 0 0) (codes "l")) (number 0 false)) (literal (at 0 0)
-    written.True)))))) ∷ statement (evaluate (at 0 0) (call (at 0 0) (name (at 0 0) (codes "println"))
+    written.True)))))) ∷ statement (evaluate (at 0 0) (call (at 0 0) (name (at 0 0) (codes "println")) (at 0 0)
     [] (expression_then (template (at 0 0) (part_then (name_part (codes "l")) parts_end)) expressions_end))) ∷ []
 
 numbers : AreTyped numbers_tree

@@ -14,7 +14,7 @@ use Rattle.kt_check_rules.specs.Names.{Names}
 use Rattle.kt_check_rules.specs.Calls.{callable, count}
 use Rattle.kt_check_rules.specs.Conditionals.{NoLines}
 use Rattle.kt_check_rules.specs.Assignments.{applied_by}
-use Rattle.kt_check_rules.specs.Rules.{Typed, TypedAll, TypedParts, TypedPart, TypedEntries, TypedConditions, TypedCondition, TypedBody, TypedBlock, TypedElse, TypedSingle, TypedLines, TypedBlockLines, TypedStatement, TypedLocal, TypedAssignment, TypedStep, NoRule, suffix_of}
+use Rattle.kt_check_rules.specs.Rules.{Typed, TypedAll, TypedParts, TypedPart, TypedEntries, TypedConditions, TypedCondition, TypedBody, TypedBlock, TypedElse, TypedSingle, TypedLines, TypedBlockLines, TypedStatement, TypedLocal, TypedAssignment, TypedStep, NoRule}
 use Rattle.kt_check_rules.proofs.Once.{OnceFor, OnceAt, none_once, then_once}
 use Rattle.kt_check_rules.proofs.OnceOperators.{literals_once, no_rule_once, text_once, printed_once, templates_once, names_once, binaries_once, prefixes_once, tests_once, casts_once, not_nulls_once, elements_once, members_once}
 use Rattle.kt_check_rules.proofs.OnceCalls.{OnceEach, no_arguments_once, more_arguments_once, calls_once, method_calls_once}
@@ -36,11 +36,11 @@ mutual
   typed K (not_null at e) = not_nulls_once K (Typed K e) (typed K e)
   typed K (member at e n x) = members_once K (Typed K e) n x (typed K e)
   typed K (index at a i) = elements_once (Typed K a) (Typed K i) (typed K a) (typed K i)
-  typed K (call at (name place x) ts es) = calls_once (callable K x ts (count es)) (TypedAll K es) (suffix_of at)
+  typed K (call at (name place x) start ts es) = calls_once (callable K x ts (count es)) (TypedAll K es) start
       (arguments K es)
-  typed K (call at (member place e n x) ts es) =
-      method_calls_once K (Typed K e) n x ts (count es) (TypedAll K es) (suffix_of at) (typed K e) (arguments K es)
-  typed K (call at f ts es) = no_rule_once
+  typed K (call at (member place e n x) start ts es) =
+      method_calls_once K (Typed K e) n x ts (count es) (TypedAll K es) start (typed K e) (arguments K es)
+  typed K (call at f start ts es) = no_rule_once
   typed K (if_else at e x y) = ifs_once K (Typed K e) (TypedBody K x) (TypedElse K y) (typed K e) (branch K x)
       (otherwise K y)
   typed K (when at no_expression es) = whens_without_once K (TypedEntries K es) (entries K es)

@@ -12,7 +12,7 @@ use Rattle.kt_check_rules.specs.Laws.{OnePlace, NotBoth, CutsHaveTyping}
 
 -- what has a typing has one when it is cut
 
-directs_cut : (K : Context) (ds : List Direct) (n : ℕ) (s : State) (o : Bool) (us : List StatementForm) (a : State)
+pub directs_cut : (K : Context) (ds : List Direct) (n : ℕ) (s : State) (o : Bool) (us : List StatementForm) (a : State)
     → AreDirects K ds s o us a → (vs : List StatementForm) × (b : State) × AreDirects K (take n ds) s o vs b
 directs_cut K ds zero s o us a y = ([], s, (refl, refl))
 directs_cut K [] (suc n) s o us a y = ([], s, (refl, refl))

@@ -1,5 +1,5 @@
 -- What typing asks of types.
-use Rattle.std.specs.Prelude.{ℕ, suc, Bool, true, false, not, List, [], ◌∷◌, length, slice_get, Option, Some, None, if◌then◌else◌, ◌==◌}
+use Rattle.std.specs.Prelude.{ℕ, zero, suc, Bool, true, false, not, List, [], ◌∷◌, length, slice_get, Option, Some, None, if◌then◌else◌, ◌==◌}
 use Rattle.kt_types_tree.specs.declared.types.TypeConstructor.{TypeConstructor}
 use Rattle.kt_types_tree.specs.declared.types.TypeConstructor.TheVariants as c
 use Rattle.kt_types_tree.specs.Types.{TypeForm, typed, nothing, any, parameter, of, forms_end, or_null}
@@ -86,12 +86,16 @@ abbrev pub bound_or_any : Option TypeForm → TypeForm
 bound_or_any None = typed true any
 bound_or_any (Some t) = t
 
--- Whether null is among its values; of a type parameter its bound tells. No way of bounds is longer than all of them.
+-- Whether null is among its values; of a type parameter its bound tells. No way of bounds is longer than all of them; one
+-- that doesn't end tells nothing, so null may be.
 abbrev pub allows_null : List TypeForm → ℕ → TypeForm → Bool
 allows_null bounds k (typed true s) = true
+allows_null bounds k (typed false nothing) = false
+allows_null bounds k (typed false any) = false
+allows_null bounds k (typed false (of c ts)) = false
+allows_null bounds zero (typed false (parameter row place)) = true
 allows_null bounds (suc k) (typed false (parameter row place)) =
     allows_null bounds k (bound_or_any (slice_get bounds row))
-allows_null bounds k (typed false s) = false
 
 abbrev pub may_be_null : HierarchyForm → TypeForm → Bool
 may_be_null h t = allows_null h.bounds (length h.bounds) t

@@ -40,7 +40,7 @@ number_of w false v =
 -- a number above the greatest `Long` has no type
 abbrev pub number_if : Use → Bool → Option ℕ → Option ExpressionForm
 number_if w long None = None
-number_if w long (Some v) = Some (number_of w long v)
+number_if w long (Some v) = if nat_le v 9223372036854775807 then Some (number_of w long v) else None
 
 abbrev pub literal_of : Use → Literal → Option ExpressionForm
 literal_of w (written.Number n) = number_if w n.long n.value

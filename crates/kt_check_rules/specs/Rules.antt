@@ -30,10 +30,6 @@ NoRule s w us behind = ⊥
 abbrev pub NoStatementRule : StatementRule
 NoStatementRule s x behind = ⊥
 
--- the place of the first token of a call's suffix, which the tree doesn't keep: that of the call
-abbrev pub suffix_of : Pos → Pos
-suffix_of at = at
-
 abbrev pub Prefixes : Context → PrefixOperator → Rule → (Use → Use) → Rule
 Prefixes K before.Negate e inner s w us behind = Negations e (inner w) s w us behind
 Prefixes K before.Not e inner s w us behind = Nots K e s w us behind
@@ -53,10 +49,10 @@ abbrev mutual
   Typed K (not_null at e) = NotNulls K (Typed K e)
   Typed K (member at e is_safe x) = Members K (Typed K e) is_safe x
   Typed K (index at a i) = Elements (Typed K a) (Typed K i)
-  Typed K (call at (name place x) ts es) = Calls (callable K x ts (count es)) (TypedAll K es) (suffix_of at)
-  Typed K (call at (member place e is_safe x) ts es) =
-      MethodCalls K (Typed K e) is_safe x ts (count es) (TypedAll K es) (suffix_of at)
-  Typed K (call at f ts es) = NoRule
+  Typed K (call at (name place x) start ts es) = Calls (callable K x ts (count es)) (TypedAll K es) start
+  Typed K (call at (member place e is_safe x) start ts es) =
+      MethodCalls K (Typed K e) is_safe x ts (count es) (TypedAll K es) start
+  Typed K (call at f start ts es) = NoRule
   Typed K (if_else at e x y) = Ifs K (Typed K e) (TypedBody K x) (TypedElse K y)
   Typed K (when at no_expression es) = WhensWithout K (TypedEntries K es)
   Typed K (when at (some_expression e) es) = Whens K (Typed K e) (TypedEntries K es)

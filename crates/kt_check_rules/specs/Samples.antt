@@ -21,7 +21,7 @@ abbrev pub null : ExpressionTree
 null = literal (at 0 0) written.Null
 
 abbrev pub print_of : ExpressionTree → ExpressionTree
-print_of e = call (at 0 0) (name (at 0 0) (codes "println")) [] (expression_then e expressions_end)
+print_of e = call (at 0 0) (name (at 0 0) (codes "println")) (at 0 0) [] (expression_then e expressions_end)
 
 abbrev pub int_name : type.TypeTree
 int_name = type.named (codes "Int") type.types_end

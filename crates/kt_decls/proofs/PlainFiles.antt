@@ -1,16 +1,14 @@
--- A file of functions alone has no classes of its own, and so no bounds that a type could break.
-use Rattle.std.specs.Prelude.{ℕ, zero, suc, List, [], ◌∷◌, ◌++◌, ◌+◌, ◌≡◌, Some, map, length, slice_get, refl}
+-- A file without classes: no class of it has a name, and none that every program has has type parameters.
+use Rattle.std.specs.Prelude.{ℕ, zero, suc, List, [], ◌∷◌, ◌++◌, ◌+◌, ◌≡◌, None, Some, map, length, slice_get, refl}
 use Rattle.std.specs.List.{flat_map}
 use Rattle.std.proofs.Common.{ap, sym, ◌∙◌}
-use Rattle.kt_tree.specs.Types.{TypeTree}
-use Rattle.kt_tree.specs.Declarations.{DeclarationTree, function, class, interface, enum, constant, FunctionTree}
+use Rattle.std.proofs.lemmas.List.{append-nil}
+use Rattle.kt_tree.specs.Declarations.{DeclarationTree, function, class, interface, enum, constant}
 use Rattle.kt_types_tree.specs.Hierarchy.{HeaderForm, HierarchyForm}
 use Rattle.kt_types_builtins.specs.declared.throwables.BuiltInThrowable.{BuiltInThrowable}
 use Rattle.kt_types_builtins.specs.Throwables.{throwables}
-use Rattle.kt_decls_types.specs.References.{resolved}
-use Rattle.kt_decls_table.specs.Functions.{Classes}
-use Rattle.kt_decls_rules.specs.Tables.{Row, class_entry, class_from, class_named, meant, scope_of, numbered, row_count, placed_from, rows_of, rows, row_headers, throwable_row, hierarchy_of}
-use Rattle.kt_decls.specs.Judging.{no_classes, ArePlain}
+use Rattle.kt_decls_rules.specs.Tables.{Row, class_entry, class_from, class_named, placed_from, rows_of, rows, row_headers, throwable_row, hierarchy_of}
+use Rattle.kt_decls.specs.Plain.{ArePlain}
 
 no_entries : (ds : List DeclarationTree) → ArePlain ds → flat_map class_entry ds ≡ []
 no_entries [] plain = refl
@@ -18,16 +16,10 @@ no_entries (function f ∷ ds) plain = no_entries ds plain.1
 no_entries (class c ∷ ds) plain = absurd plain.0
 no_entries (interface i ∷ ds) plain = absurd plain.0
 no_entries (enum e ∷ ds) plain = absurd plain.0
-no_entries (constant c ∷ ds) plain = absurd plain.0
+no_entries (constant c ∷ ds) plain = no_entries ds plain.1
 
-none_named : (ds : List DeclarationTree) → ArePlain ds → ◌≡◌ {A = Classes} (class_named ds) no_classes
-none_named ds plain = λ i x. class_from (length throwables) (no_entries ds plain i) x
-
-pub meant_plainly : (ds : List DeclarationTree) → ArePlain ds → (t : TypeTree) → meant ds [] t ≡ resolved no_classes [] t
-meant_plainly ds plain t = λ i. resolved (none_named ds plain i) [] t
-
-pub no_scope : (before : List DeclarationTree) (f : FunctionTree) → f.type_parameters ≡ [] → scope_of before (function f) ≡ []
-no_scope before f e = ap (numbered (row_count before)) e
+pub none_named : (ds : List DeclarationTree) → ArePlain ds → (x : List ℕ) → class_named ds x ≡ None
+none_named ds plain x = ap (λ es. class_from (length throwables) es x) (no_entries ds plain)
 
 no_rows : (ds before rest : List DeclarationTree) → ArePlain rest → rows_of ds (placed_from before rest) ≡ []
 no_rows ds before [] plain = refl
@@ -35,15 +27,11 @@ no_rows ds before (function f ∷ rest) plain = no_rows ds (before ++ function f
 no_rows ds before (class c ∷ rest) plain = absurd plain.0
 no_rows ds before (interface i ∷ rest) plain = absurd plain.0
 no_rows ds before (enum e ∷ rest) plain = absurd plain.0
-no_rows ds before (constant c ∷ rest) plain = absurd plain.0
-
-behind_nothing : (rs : List Row) → rs ++ [] ≡ rs
-behind_nothing [] = refl
-behind_nothing (r ∷ rs) = ap (λ rest. r ∷ rest) (behind_nothing rs)
+no_rows ds before (constant c ∷ rest) plain = no_rows ds (before ++ constant c ∷ []) rest plain.1
 
 rows_plainly : (ds : List DeclarationTree) → ArePlain ds → rows ds ≡ map throwable_row throwables
 rows_plainly ds plain =
-    ap (λ rs. map throwable_row throwables ++ rs) (no_rows ds [] ds plain) ∙ behind_nothing (map throwable_row throwables)
+    ap (λ rs. map throwable_row throwables ++ rs) (no_rows ds [] ds plain) ∙ append-nil (map throwable_row throwables)
 
 -- no class has type parameters
 abbrev pub HasNoParameters : HierarchyForm → Type 0

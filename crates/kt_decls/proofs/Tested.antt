@@ -3,18 +3,14 @@ use Rattle.std.specs.Prelude.{Bool, true, false, List, [], ◌∷◌, ◌≡◌,
 use Rattle.std.proofs.Common.{rules, ap, sym, ◌∙◌, subst}
 use Rattle.kt_tree.specs.declared.declarations.Declaration.{Declaration}
 use Rattle.kt_tree.specs.Declarations.{DeclarationTree, declaration_tree, function, class, interface, enum, constant}
-use Rattle.kt_decls.specs.Judging.{has_none, is_plain, are_plain, IsPlain, ArePlain}
-
-empty_if : {A : Type 0} (xs : List A) → IsTrue (has_none xs) → xs ≡ []
-empty_if [] t = refl
-empty_if (x ∷ xs) t = absurd (search rules)
+use Rattle.kt_decls.specs.Plain.{is_plain, are_plain, IsPlain, ArePlain}
 
 plain_if : (d : DeclarationTree) → IsTrue (is_plain d) → IsPlain d
-plain_if (function f) t = empty_if f.type_parameters t
+plain_if (function f) t = tt
 plain_if (class c) t = absurd (search rules)
 plain_if (interface i) t = absurd (search rules)
 plain_if (enum e) t = absurd (search rules)
-plain_if (constant c) t = absurd (search rules)
+plain_if (constant c) t = tt
 
 both_if : (a b : Bool) → IsTrue (if a then b else false) → IsTrue a × IsTrue b
 both_if true b t = (search rules, t)
@@ -27,11 +23,11 @@ are_plain_if (d ∷ ds) t =
     (plain_if d two.0, are_plain_if ds two.1)
 
 only_if : (d : DeclarationTree) → IsPlain d → is_plain d ≡ true
-only_if (function f) e = ap has_none e
+only_if (function f) e = refl
 only_if (class c) e = absurd e
 only_if (interface i) e = absurd e
 only_if (enum n) e = absurd e
-only_if (constant c) e = absurd e
+only_if (constant c) e = refl
 
 pub are_plain_only_if : (ds : List DeclarationTree) → ArePlain ds → are_plain ds ≡ true
 are_plain_only_if [] p = refl

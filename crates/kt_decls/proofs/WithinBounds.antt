@@ -7,13 +7,14 @@ use Rattle.kt_types_tree.specs.declared.types.TypeConstructor.{TypeConstructor}
 use Rattle.kt_types_tree.specs.declared.types.TypeConstructor.TheVariants as constructor
 use Rattle.kt_types_tree.specs.Types.{TypeForm, ShapeForm, TypeForms, typed, nothing, any, parameter, of, forms_end, form_then}
 use Rattle.kt_types_tree.specs.Hierarchy.{HeaderForm, HierarchyForm}
+use Rattle.kt_typed.specs.declared.headers.DeclaredTypeParameter.{DeclaredTypeParameter}
 use Rattle.kt_typed.specs.Headers.{ParameterForm}
-use Rattle.kt_decls_types.specs.References.{resolved, then_on}
-use Rattle.kt_decls_table.specs.Functions.{parameters_meant, result_meant}
-use Rattle.kt_decls_rules.specs.Tables.{meant, hierarchy_of}
+use Rattle.kt_decls_types.specs.References.{then_on}
+use Rattle.kt_decls_table.specs.Functions.{parameter_meant, parameters_meant, result_meant}
+use Rattle.kt_decls_rules.specs.Tables.{class_named, meant, hierarchy_of}
 use Rattle.kt_decls_rules.specs.Rules.{IsWithinBounds, IsShapeWithinBounds, AreWithinBounds, AreBelowBounds, IsBelowBound, bound_at, header_at, HasMeaning, AreMeant, written}
-use Rattle.kt_decls.specs.Judging.{no_classes, ArePlain}
-use Rattle.kt_decls.proofs.PlainFiles.{HasNoParameters, no_parameters, meant_plainly}
+use Rattle.kt_decls.proofs.PlainFiles.{HasNoParameters}
+use Rattle.kt_decls.proofs.Meanings.{split, joined}
 
 IsBare : Option HeaderForm → Type 0
 IsBare None = Unit {0}
@@ -58,56 +59,56 @@ mutual
 
 -- A type has a meaning where it is resolved.
 
-has_meaning : (h : HierarchyForm) → HasNoParameters h → (o : Option TypeForm) (t : TypeForm) → o ≡ Some t → HasMeaning h o
+pub has_meaning : (h : HierarchyForm) → HasNoParameters h → (o : Option TypeForm) (t : TypeForm) → o ≡ Some t → HasMeaning h o
 has_meaning h known None t e = absurd cc
 has_meaning h known (Some u) t e = within h known u
 
-is_there : (h : HierarchyForm) (o : Option TypeForm) → HasMeaning h o → (t : TypeForm) × (o ≡ Some t)
+pub is_there : (h : HierarchyForm) (o : Option TypeForm) → HasMeaning h o → (t : TypeForm) × (o ≡ Some t)
 is_there h None m = absurd m
 is_there h (Some t) m = (t, refl)
 
-module _ (file : List DeclarationTree) (plain : ArePlain file) where
-  pub meant_if : (x : TypeTree) (t : TypeForm) → resolved no_classes [] x ≡ Some t → HasMeaning (hierarchy_of file) (meant file [] x)
-  meant_if x t e = has_meaning (hierarchy_of file) (no_parameters file plain) (meant file [] x) t (meant_plainly file plain x ∙ e)
+pub went_on : {A B : Type 0} (o : Option A) (go : A → Option B) (b : B) → then_on o go ≡ Some b → (a : A) × ((o ≡ Some a) × (go a ≡ Some b))
+went_on None go b e = absurd cc
+went_on (Some a) go b e = (a, (refl, e))
 
-  pub only_if : (x : TypeTree) → HasMeaning (hierarchy_of file) (meant file [] x) → (t : TypeForm) × (resolved no_classes [] x ≡ Some t)
-  only_if x m =
-      let there = is_there (hierarchy_of file) (meant file [] x) m in
-      (there.0, sym (meant_plainly file plain x) ∙ there.1)
+module _ (file : List DeclarationTree) (known : HasNoParameters (hierarchy_of file)) (scope : List DeclaredTypeParameter) where
+  pub meant_if : (x : TypeTree) (t : TypeForm) → meant file scope x ≡ Some t → HasMeaning (hierarchy_of file) (meant file scope x)
+  meant_if x t e = has_meaning (hierarchy_of file) known (meant file scope x) t e
 
-  pub went_on : {A B : Type 0} (o : Option A) (go : A → Option B) (b : B) → then_on o go ≡ Some b → (a : A) × ((o ≡ Some a) × (go a ≡ Some b))
-  went_on None go b e = absurd cc
-  went_on (Some a) go b e = (a, (refl, e))
+  pub parameters_if : (ps : List TypedParameterTree) (hs : List ParameterForm) → parameters_meant (class_named file) scope ps ≡ Some hs → AreMeant file scope (map (λ p. p.annotation) ps)
+  parameters_if [] hs e = tt
+  parameters_if (p ∷ ps) hs e =
+      let s = split (parameter_meant (class_named file) scope p) (parameters_meant (class_named file) scope ps) hs e in
+      let one = went_on (meant file scope p.annotation) (λ t. Some (record { name = p.name; annotation = t })) s.first s.is_first in
+      (meant_if p.annotation one.0 one.1.0, parameters_if ps s.more s.are_more)
 
-  pub parameters_if : (ps : List TypedParameterTree) (done hs : List ParameterForm) → parameters_meant no_classes done ps ≡ Some hs → AreMeant file [] (map (λ p. p.annotation) ps)
-  parameters_if [] done hs e = tt
-  parameters_if (p ∷ ps) done hs e =
-      let x = went_on (resolved no_classes [] p.annotation) (λ t. parameters_meant no_classes (done ++ record { name = p.name; annotation = t } ∷ []) ps) hs e in
-      (meant_if p.annotation x.0 x.1.0, parameters_if ps (done ++ record { name = p.name; annotation = x.0 } ∷ []) hs x.1.1)
+  pub parameters_only_if : (ps : List TypedParameterTree) → AreMeant file scope (map (λ p. p.annotation) ps) → (hs : List ParameterForm) × (parameters_meant (class_named file) scope ps ≡ Some hs)
+  parameters_only_if [] m = ([], refl)
+  parameters_only_if (p ∷ ps) m =
+      let x = is_there (hierarchy_of file) (meant file scope p.annotation) m.0 in
+      let rest = parameters_only_if ps m.1 in
+      let h : ParameterForm = record { name = p.name; annotation = x.0 } in
+      (h ∷ rest.0, joined (parameter_meant (class_named file) scope p) (parameters_meant (class_named file) scope ps) h rest.0 (ap (λ o. then_on o (λ t. Some (with_type p t))) x.1) rest.1)
+    where
+      with_type : TypedParameterTree → TypeForm → ParameterForm
+      with_type p t = record { name = p.name; annotation = t }
 
-  pub parameters_only_if : (ps : List TypedParameterTree) (done : List ParameterForm) → AreMeant file [] (map (λ p. p.annotation) ps) → (hs : List ParameterForm) × (parameters_meant no_classes done ps ≡ Some hs)
-  parameters_only_if [] done m = (done, refl)
-  parameters_only_if (p ∷ ps) done m =
-      let x = only_if p.annotation m.0 in
-      let rest = parameters_only_if ps (done ++ record { name = p.name; annotation = x.0 } ∷ []) m.1 in
-      (rest.0, ap (λ o. then_on o (λ t. parameters_meant no_classes (done ++ record { name = p.name; annotation = t } ∷ []) ps)) x.1 ∙ rest.1)
-
-  pub result_if : (o : Option TypeTree) (t : TypeForm) → result_meant no_classes o ≡ Some t → AreMeant file [] (written o)
+  pub result_if : (o : Option TypeTree) (t : TypeForm) → result_meant (class_named file) scope o ≡ Some t → AreMeant file scope (written o)
   result_if None t e = tt
   result_if (Some x) t e = (meant_if x t e, tt)
 
-  pub result_only_if : (o : Option TypeTree) → AreMeant file [] (written o) → (t : TypeForm) × (result_meant no_classes o ≡ Some t)
+  pub result_only_if : (o : Option TypeTree) → AreMeant file scope (written o) → (t : TypeForm) × (result_meant (class_named file) scope o ≡ Some t)
   result_only_if None m = (_, refl)
-  result_only_if (Some x) m = only_if x m.0
+  result_only_if (Some x) m = is_there (hierarchy_of file) (meant file scope x) m.0
 
-  pub both_meant : (xs ys : List TypeTree) → AreMeant file [] xs → AreMeant file [] ys → AreMeant file [] (xs ++ ys)
+  pub both_meant : (xs ys : List TypeTree) → AreMeant file scope xs → AreMeant file scope ys → AreMeant file scope (xs ++ ys)
   both_meant [] ys m n = n
   both_meant (x ∷ xs) ys m n = (m.0, both_meant xs ys m.1 n)
 
-  pub first_meant : (xs ys : List TypeTree) → AreMeant file [] (xs ++ ys) → AreMeant file [] xs
+  pub first_meant : (xs ys : List TypeTree) → AreMeant file scope (xs ++ ys) → AreMeant file scope xs
   first_meant [] ys m = tt
   first_meant (x ∷ xs) ys m = (m.0, first_meant xs ys m.1)
 
-  pub second_meant : (xs ys : List TypeTree) → AreMeant file [] (xs ++ ys) → AreMeant file [] ys
+  pub second_meant : (xs ys : List TypeTree) → AreMeant file scope (xs ++ ys) → AreMeant file scope ys
   second_meant [] ys m = m
   second_meant (x ∷ xs) ys m = second_meant xs ys m.1

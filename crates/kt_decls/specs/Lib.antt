@@ -1,2 +1,3 @@
+pub mod Plain
+pub mod FileHeaders
 pub mod Judging
-pub mod FunctionHeaders

@@ -3,4 +3,4 @@
 
 pub mod declaring;
 
-pub use declaring::{are_plain, declare_functions};
+pub use declaring::{PlainDeclarations, are_plain, declare_plain};

@@ -16,7 +16,8 @@ use Rattle.kt_typed.specs.Headers.{ConstantForm}
 use Rattle.kt_decls_types.specs.References.{resolved, then_on}
 use Rattle.kt_decls_rules.specs.Names.{Taken, a_value, is_reserved}
 use Rattle.kt_decls_rules.specs.Constants.{basic}
-use Rattle.kt_decls_table.specs.Functions.{Classes, are_no_forms}
+use Rattle.kt_decls_table.specs.Classes.{Classes}
+use Rattle.kt_decls_table.specs.Functions.{are_no_forms}
 
 -- the number, with a `-` before it where so
 abbrev pub signed : Width → Bool → ℕ → ℤ

@@ -1,17 +1,17 @@
-//! Files of functions, and what their headers are answered.
+//! Files of functions and constants, and what their headers are answered.
 
 use crate::trees::file;
 use kt_base::FrontErr;
-use kt_decls::{are_plain, declare_functions};
+use kt_decls::{are_plain, declare_plain};
 use std::alloc::Global;
 use std::test::Fail;
 
 /// What the headers of a file are answered.
 #[derive(Clone, Copy, Debug, PartialEq, Eq)]
 enum Answer {
-    /// They are well formed, so many functions.
+    /// They are well formed, so many functions and constants.
     Fine(usize),
-    /// They are refused at the function on this line.
+    /// They are refused at the declaration on this line.
     Line(u32),
     /// Another kind of answer, which no row expects.
     Other,
@@ -22,14 +22,14 @@ fn told(alloc: Global, functions: &[&str]) -> Result<Answer, Fail> {
     if !are_plain(&tree) {
         return Ok(Answer::Other);
     }
-    match declare_functions(alloc, &tree) {
-        Ok(headers) => Ok(Answer::Fine(headers.len())),
+    match declare_plain(alloc, &tree) {
+        Ok(headers) => Ok(Answer::Fine(headers.order.len())),
         Err(FrontErr::Refused(refusal)) => Ok(Answer::Line(refusal.pos.line)),
         Err(FrontErr::NoMemory) => Ok(Answer::Other),
     }
 }
 
-/// Functions in letters, and the answer.
+/// Declarations in letters, and the answer.
 type Row = (&'static [&'static str], Answer);
 
 /// Accepted.
@@ -139,6 +139,123 @@ fn others() -> &'static [Row] {
     ]
 }
 
+/// Constants that are accepted.
+fn constants() -> &'static [Row] {
+    &[
+        (&["=ai1"], Answer::Fine(1)),
+        (&["=a.1"], Answer::Fine(1)),
+        (&["=ai0"], Answer::Fine(1)),
+        (&["=ai-1"], Answer::Fine(1)),
+        (&["=a.-1"], Answer::Fine(1)),
+        (&["=ai7"], Answer::Fine(1)),
+        (&["=ai-7"], Answer::Fine(1)),
+        (&["=al1"], Answer::Fine(1)),
+        (&["=al-1"], Answer::Fine(1)),
+        (&["=al7"], Answer::Fine(1)),
+        (&["=al8"], Answer::Fine(1)),
+        (&["=al-8"], Answer::Fine(1)),
+        (&["=a.8"], Answer::Fine(1)),
+        (&["=a.-8"], Answer::Fine(1)),
+        (&["=al9"], Answer::Fine(1)),
+        (&["=a.-9"], Answer::Fine(1)),
+        (&["=all"], Answer::Fine(1)),
+        (&["=al-l"], Answer::Fine(1)),
+        (&["=a.l"], Answer::Fine(1)),
+        (&["=acc"], Answer::Fine(1)),
+        (&["=a.c"], Answer::Fine(1)),
+        (&["=abt"], Answer::Fine(1)),
+        (&["=abf"], Answer::Fine(1)),
+        (&["=a.t"], Answer::Fine(1)),
+        (&["=ass"], Answer::Fine(1)),
+        (&["=a.s"], Answer::Fine(1)),
+        (&["=ai1", "=bi1", "g."], Answer::Fine(3)),
+        (&["mu", "=ai1"], Answer::Fine(2)),
+        (&["=m.1", "gai."], Answer::Fine(2)),
+    ]
+}
+
+/// Constants that are refused.
+fn wrong_constants() -> &'static [Row] {
+    &[
+        (&["=ai8"], Answer::Line(1)),
+        (&["=ai-8"], Answer::Line(1)),
+        (&["=ail"], Answer::Line(1)),
+        (&["=a.x"], Answer::Line(1)),
+        (&["=alx"], Answer::Line(1)),
+        (&["=a.-x"], Answer::Line(1)),
+        (&["=a.n"], Answer::Line(1)),
+        (&["=ain"], Answer::Line(1)),
+        (&["=aIn"], Answer::Line(1)),
+        (&["=aI1"], Answer::Line(1)),
+        (&["=a.-t"], Answer::Line(1)),
+        (&["=ab-f"], Answer::Line(1)),
+        (&["=ac-c"], Answer::Line(1)),
+        (&["=ab1"], Answer::Line(1)),
+        (&["=alc"], Answer::Line(1)),
+        (&["=aic"], Answer::Line(1)),
+        (&["=ac1"], Answer::Line(1)),
+        (&["=as1"], Answer::Line(1)),
+        (&["=ais"], Answer::Line(1)),
+        (&["=aa1"], Answer::Line(1)),
+        (&["=au1"], Answer::Line(1)),
+        (&["=aj1"], Answer::Line(1)),
+        (&["=aA1"], Answer::Line(1)),
+        (&["=p.1"], Answer::Line(1)),
+        (&["=i.1"], Answer::Line(1)),
+        (&["=k.1"], Answer::Line(1)),
+        (&["=a.1", "=a.1"], Answer::Line(2)),
+        (&["=a.1", "a."], Answer::Line(2)),
+        (&["aii.", "=a.1"], Answer::Line(2)),
+        (&["g.", "=a.n", "gx"], Answer::Line(2)),
+    ]
+}
+
+/// Type parameters that are accepted.
+fn type_parameters() -> &'static [Row] {
+    &[
+        (&["<1.>g."], Answer::Fine(1)),
+        (&["<1.>ga1b11"], Answer::Fine(1)),
+        (&["<1.2.>ga1b2."], Answer::Fine(1)),
+        (&["<1a>ga1T"], Answer::Fine(1)),
+        (&["<1I>gaK."], Answer::Fine(1)),
+        (&["<12233.>g1"], Answer::Fine(1)),
+        (&["<122a>gaVT"], Answer::Fine(1)),
+        (&["<1.21>gaS."], Answer::Fine(1)),
+        (&["<1K>g."], Answer::Fine(1)),
+        (&["<i.>gaii"], Answer::Fine(1)),
+        (&["<g.>g."], Answer::Fine(1)),
+        (&["<1.>g1", "<1.>h1"], Answer::Fine(2)),
+        (&["<1.>mai1"], Answer::Fine(1)),
+        (&["S<1.2.>g1", "=a.1", "<1.>h1"], Answer::Fine(3)),
+    ]
+}
+
+/// Type parameters that are refused.
+fn wrong_type_parameters() -> &'static [Row] {
+    &[
+        (&["<1.1.>g."], Answer::Line(1)),
+        (&["<1.2.1.>g."], Answer::Line(1)),
+        (&["<11>g."], Answer::Line(1)),
+        (&["<1T>g."], Answer::Line(1)),
+        (&["<1221>g."], Answer::Line(1)),
+        (&["<122331>g."], Answer::Line(1)),
+        (&["<1233>ga1."], Answer::Line(1)),
+        (&["<1.22>g."], Answer::Line(1)),
+        (&["<1x>g."], Answer::Line(1)),
+        (&["<12>g."], Answer::Line(1)),
+        (&["<1.>ga2."], Answer::Line(1)),
+        (&["<1.>gX"], Answer::Line(1)),
+        (&["<1.>gaO."], Answer::Line(1)),
+        (&["<1.>m."], Answer::Line(1)),
+        (&["<1.>mu"], Answer::Line(1)),
+        (&["<1.>g.", "ha1."], Answer::Line(2)),
+        (&["<1.>g.", "h.", "<22>a."], Answer::Line(3)),
+        (&["<1.2.>g.", "<12>h."], Answer::Line(2)),
+        (&["<1x>g.", "<1.>g."], Answer::Line(1)),
+        (&["<1.>g.", "<1.2.>g."], Answer::Line(2)),
+    ]
+}
+
 fn is_as_told(alloc: Global, rows: &[Row]) -> Result<bool, Fail> {
     for row in rows {
         let (functions, expected) = *row;
@@ -153,6 +270,30 @@ fn is_as_told(alloc: Global, rows: &[Row]) -> Result<bool, Fail> {
 fn headers_are_accepted(rt: HostRuntime) -> Result<(), Fail> {
     assert!(rt; is_as_told(rt.alloc(), accepted())?);
     assert_eq!(rt; accepted().len(), 25);
+    Ok(())
+}
+
+#[test]
+fn constants_are_accepted(rt: HostRuntime) -> Result<(), Fail> {
+    assert!(rt; is_as_told(rt.alloc(), constants())?);
+    Ok(())
+}
+
+#[test]
+fn constants_are_refused(rt: HostRuntime) -> Result<(), Fail> {
+    assert!(rt; is_as_told(rt.alloc(), wrong_constants())?);
+    Ok(())
+}
+
+#[test]
+fn type_parameters_are_accepted(rt: HostRuntime) -> Result<(), Fail> {
+    assert!(rt; is_as_told(rt.alloc(), type_parameters())?);
+    Ok(())
+}
+
+#[test]
+fn type_parameters_are_refused(rt: HostRuntime) -> Result<(), Fail> {
+    assert!(rt; is_as_told(rt.alloc(), wrong_type_parameters())?);
     Ok(())
 }
 

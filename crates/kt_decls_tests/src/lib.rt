@@ -1,4 +1,4 @@
-//! Headers of files of functions: which are accepted, and at which function the others are refused.
+//! Headers of files of functions and constants: which are accepted, and at which declaration the others are refused.
 //!
 //! Expected answers are worked out from the rules of the language.
 #![tactic(auto)]

@@ -1,10 +1,11 @@
-//! Trees of functions, written in letters.
+//! Trees of functions and constants, written in letters.
 
 ghost use Rattle.std.specs.Str.{IsAscii};
 
 use kt_base::{Name, NoMemory, Pos};
 use kt_tree::{
-    Block, Declaration, FileTree, FunctionBody, FunctionDeclaration, FunctionModifiers, Parameter,
+    Block, ConstantDeclaration, ConstantValue, Declaration, FileTree, FunctionBody,
+    FunctionDeclaration, FunctionModifiers, Literal, Number, Parameter, TextPart, TypeParameter,
     TypeReference,
 };
 use sqlite_items::{Boxed, Items};
@@ -31,6 +32,9 @@ fn name_of(alloc: Global, letter: u8) -> Result<Name, NoMemory> {
         b'b' => Name::of(alloc, b"b"),
         b't' => Name::of(alloc, b"toString"),
         b'z' => Name::of(alloc, b"mainKt"),
+        b'1' => Name::of(alloc, b"T"),
+        b'2' => Name::of(alloc, b"U"),
+        b'3' => Name::of(alloc, b"V"),
         _ => Name::of(alloc, b"f"),
     }
 }
@@ -81,6 +85,9 @@ fn simple_type(alloc: Global, letter: u8) -> Result<TypeReference, NoMemory> {
         b'd' => plain(alloc, b"Continuation"),
         b'j' => plain(alloc, b"int"),
         b'k' => plain(alloc, b"MainKt"),
+        b'1' => plain(alloc, b"T"),
+        b'2' => plain(alloc, b"U"),
+        b'3' => plain(alloc, b"V"),
         _ => plain(alloc, b"Foo"),
     }
 }
@@ -97,6 +104,12 @@ fn type_of(alloc: Global, letter: u8) -> Result<TypeReference, NoMemory> {
         b'E' => applied(alloc, b"Throwable", plain(alloc, b"Int")?),
         b'Q' => applied(alloc, b"Int", plain(alloc, b"Int")?),
         b'N' => applied(alloc, b"Nothing", plain(alloc, b"Int")?),
+        b'K' => applied(alloc, b"Continuation", plain(alloc, b"T")?),
+        b'O' => applied(alloc, b"Array", plain(alloc, b"T")?),
+        b'S' => applied(alloc, b"Array", nullable(alloc, plain(alloc, b"T")?)?),
+        b'T' => nullable(alloc, plain(alloc, b"T")?),
+        b'V' => nullable(alloc, plain(alloc, b"U")?),
+        b'X' => applied(alloc, b"T", plain(alloc, b"Int")?),
         b'F' => function_type(alloc, 0),
         b'G' => function_type(alloc, 6),
         b'H' => function_type(alloc, 7),
@@ -105,9 +118,7 @@ fn type_of(alloc: Global, letter: u8) -> Result<TypeReference, NoMemory> {
     }
 }
 
-/// A function, as it is written in letters: capital letters for its modifiers (`R` override, `O` open, `A` abstract, `S`
-/// suspend), a letter for its name, two letters for each parameter's name and type, and one for its result, `.` where
-/// none is written.
+/// The capital letters in front.
 fn modifiers_of(letters: &[u8]) -> FunctionModifiers {
     let mut modifiers = FunctionModifiers {
         is_override: false,
@@ -135,6 +146,47 @@ fn behind_modifiers(letters: &[u8]) -> &[u8] {
         }
     }
     &[]
+}
+
+/// Where the sign stands, and else the length.
+fn place_of(letters: &[u8], sign: u8) -> usize {
+    for index in 0..letters.len() {
+        if letters[index] == sign {
+            return index;
+        }
+    }
+    letters.len()
+}
+
+/// The type parameters, two letters each, the second for the bound.
+fn type_parameters_of(alloc: Global, letters: &[u8]) -> Result<Items<TypeParameter>, NoMemory> {
+    let mut parameters = Items::new(alloc);
+    for pair in 0..letters.len() / 2 {
+        let bound = result_of(alloc, letter_at(letters, 2 * pair + 1))?;
+        let name = name_of(alloc, letter_at(letters, 2 * pair))?;
+        parameters.push(TypeParameter { name, bound })?;
+    }
+    Ok(parameters)
+}
+
+/// What stands behind the type parameters.
+fn behind_angles(letters: &[u8]) -> &[u8] {
+    if letter_at(letters, 0) == b'<' {
+        let end = place_of(letters, b'>');
+        letters.get(end..).unwrap_or(&[]).get(1..).unwrap_or(&[])
+    } else {
+        letters
+    }
+}
+
+/// What stands between the angles.
+fn between_angles(letters: &[u8]) -> &[u8] {
+    if letter_at(letters, 0) == b'<' {
+        let end = place_of(letters, b'>');
+        letters.get(..end).unwrap_or(&[]).get(1..).unwrap_or(&[])
+    } else {
+        &[]
+    }
 }
 
 /// The letter at an index, and `.` behind the last.
@@ -176,9 +228,13 @@ fn body(line: u32, alloc: Global) -> FunctionBody {
     })
 }
 
-/// The function, on its line.
+/// The function, on its line, in letters: capital letters for its modifiers (`R` override, `O` open, `A` abstract, `S`
+/// suspend), two letters for each type parameter's name and bound between angles, a letter for its name, two for each
+/// parameter's name and type, and one for its result; `.` where no bound or result is written.
 fn function(alloc: Global, line: u32, letters: &[u8]) -> Result<FunctionDeclaration, NoMemory> {
-    let left = behind_modifiers(letters);
+    let behind = behind_modifiers(letters);
+    let type_parameters = type_parameters_of(alloc, between_angles(behind))?;
+    let left = behind_angles(behind);
     let name = name_of(alloc, letter_at(left, 0))?;
     let behind_name = left.get(1..).unwrap_or(&[]);
     let parameters = parameters_of(alloc, behind_name)?;
@@ -187,7 +243,7 @@ fn function(alloc: Global, line: u32, letters: &[u8]) -> Result<FunctionDeclarat
     Ok(FunctionDeclaration {
         at: Pos { line, column: 1 },
         modifiers: modifiers_of(letters),
-        type_parameters: Items::new(alloc),
+        type_parameters,
         name,
         parameters,
         result,
@@ -195,12 +251,69 @@ fn function(alloc: Global, line: u32, letters: &[u8]) -> Result<FunctionDeclarat
     })
 }
 
-/// The functions, each on a line of its own.
-pub fn file(alloc: Global, functions: &[&str]) -> Result<FileTree, NoMemory> {
+fn number(value: Option<u64>, long: bool) -> Literal {
+    Literal::Number(Number { value, long })
+}
+
+/// The literal that a letter stands for.
+fn literal_of(letter: u8) -> Literal {
+    match letter {
+        b'0' => number(Some(0), false),
+        b'7' => number(Some(2_147_483_647), false),
+        b'8' => number(Some(2_147_483_648), false),
+        b'9' => number(Some(9_223_372_036_854_775_807), false),
+        b'l' => number(Some(1), true),
+        b'x' => number(None, false),
+        b'c' => Literal::Character(65),
+        b't' => Literal::True,
+        b'f' => Literal::False,
+        b'n' => Literal::Null,
+        _ => number(Some(1), false),
+    }
+}
+
+/// The value that letters stand for: `s` a text, and else a literal, with a `-` before it where so.
+fn value_of(alloc: Global, letters: &[u8]) -> Result<ConstantValue, NoMemory> {
+    match letter_at(letters, 0) {
+        b's' => {
+            let mut parts = Items::new(alloc);
+            parts.push(TextPart::Dollar)?;
+            parts.push(TextPart::Escape(10))?;
+            Ok(ConstantValue::Text(parts))
+        }
+        b'-' => Ok(ConstantValue::Literal(true, literal_of(letter_at(letters, 1)))),
+        letter => Ok(ConstantValue::Literal(false, literal_of(letter))),
+    }
+}
+
+/// The constant, on its line, in letters behind `=`: one for its name, one for its type, `.` where none is written, and
+/// its value.
+fn constant(alloc: Global, line: u32, letters: &[u8]) -> Result<ConstantDeclaration, NoMemory> {
+    let name = name_of(alloc, letter_at(letters, 1))?;
+    let annotation = result_of(alloc, letter_at(letters, 2))?;
+    let value = value_of(alloc, letters.get(3..).unwrap_or(&[]))?;
+    Ok(ConstantDeclaration {
+        at: Pos { line, column: 1 },
+        name,
+        annotation,
+        value,
+    })
+}
+
+fn declaration(alloc: Global, line: u32, letters: &[u8]) -> Result<Declaration, NoMemory> {
+    if letter_at(letters, 0) == b'=' {
+        Ok(Declaration::Constant(constant(alloc, line, letters)?))
+    } else {
+        Ok(Declaration::Function(function(alloc, line, letters)?))
+    }
+}
+
+/// The declarations, each on a line of its own.
+pub fn file(alloc: Global, lines: &[&str]) -> Result<FileTree, NoMemory> {
     let mut declarations = Items::new(alloc);
     let mut line: u32 = 1;
-    for letters in functions {
-        declarations.push(Declaration::Function(function(alloc, line, letters.as_bytes())?))?;
+    for letters in lines {
+        declarations.push(declaration(alloc, line, letters.as_bytes())?)?;
         line = line.wrapping_add(1);
     }
     Ok(FileTree { declarations })

@@ -60,7 +60,7 @@ one_argument _ _ = None
 
 -- the argument of a call of `println`
 abbrev pub argument_of : ExpressionTree → Option ExpressionTree
-argument_of (e.call at f ts as') = if is_println f then one_argument ts as' else None
+argument_of (e.call at f start ts as') = if is_println f then one_argument ts as' else None
 argument_of _ = None
 
 -- what a statement prints

@@ -116,7 +116,7 @@ fn argument_of(call: &Expression) -> Option<&Expression>
     ensures { option_map (λ a. expression_tree a.now) result ≡ trees.argument_of (expression_tree call.now) }
 {
     match &call.kind {
-        ExpressionKind::Call(called, types, arguments) if is_println(called.get()) => {
+        ExpressionKind::Call(called, _, types, arguments) if is_println(called.get()) => {
             one_argument(types.as_slice(), arguments.as_slice())
         }
         _ => None,

@@ -9,6 +9,3 @@ mod reading;
 
 pub use laws::one_meaning;
 pub use reading::{FirstErr, parse_first};
-
-#[cfg(test)]
-mod tests;

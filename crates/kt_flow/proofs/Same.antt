@@ -10,10 +10,10 @@ flag_refl : (a : Bool) → same_flag a a ≡ true
 flag_refl true = refl
 flag_refl false = refl
 
-number_refl : (n : ℕ) → (n == n) ≡ true
+pub number_refl : (n : ℕ) → (n == n) ≡ true
 number_refl n = grind arith
 
-constructor_refl : (a : TypeConstructor) → same_constructor a a ≡ true
+pub constructor_refl : (a : TypeConstructor) → same_constructor a a ≡ true
 constructor_refl c.Int = refl
 constructor_refl c.Long = refl
 constructor_refl c.Boolean = refl
@@ -36,7 +36,7 @@ mutual
   shape_refl (parameter row place) = rw (number_refl row, number_refl place) refl
   shape_refl (of d ts) = rw (constructor_refl d, types_refl ts) refl
 
-  types_refl : (ts : TypeForms) → same_types ts ts ≡ true
+  pub types_refl : (ts : TypeForms) → same_types ts ts ≡ true
   types_refl forms_end = refl
   types_refl (form_then t ts) = rw (type_refl t, types_refl ts) refl
 
@@ -50,10 +50,10 @@ flag_only false false e = refl
 flag_only true false e = cc
 flag_only false true e = cc
 
-number_only : (n m : ℕ) → (n == m) ≡ true → n ≡ m
+pub number_only : (n m : ℕ) → (n == m) ≡ true → n ≡ m
 number_only n m e = grind arith
 
-constructor_only : (a b : TypeConstructor) → same_constructor a b ≡ true → a ≡ b
+pub constructor_only : (a b : TypeConstructor) → same_constructor a b ≡ true → a ≡ b
 constructor_only c.Int c.Int e = refl
 constructor_only c.Long c.Long e = refl
 constructor_only c.Boolean c.Boolean e = refl
@@ -84,7 +84,7 @@ mutual
       rw (constructor_only d f b.0, types_only ts us b.1) refl
   shape_only _ _ e = cc
 
-  types_only : (ts us : TypeForms) → same_types ts us ≡ true → ts ≡ us
+  pub types_only : (ts us : TypeForms) → same_types ts us ≡ true → ts ≡ us
   types_only forms_end forms_end e = refl
   types_only (form_then t ts) (form_then u us) e =
       let b = both_true (same_type t u) (same_types ts us) e in

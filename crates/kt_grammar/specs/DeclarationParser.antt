@@ -1,5 +1,24 @@
 -- Parsers of declarations and files.
-use Rattle.std.specs.Prelude.{ℕ, Bool, true, false, not, List, [], ◌∷◌, ◌++◌, length, ◌-◌, Option, None, Some, is_some, Ok, Err, ◌⊎◌}
+use Rattle.std.specs.Prelude.{
+  ℕ,
+  Bool,
+  true,
+  false,
+  not,
+  List,
+  [],
+  ◌∷◌,
+  ◌++◌,
+  length,
+  ◌-◌,
+  Option,
+  None,
+  Some,
+  is_some,
+  Ok,
+  Err,
+  ◌⊎◌,
+}
 use Rattle.std.proofs.Common.{inl, inr}
 use Rattle.kt_base.specs.declared.refusals.Pos.{Pos}
 use Rattle.kt_tree.specs.declared.tokens.Token.{Token}
@@ -17,11 +36,50 @@ use Rattle.kt_tree.specs.declared.declarations.ConstantValue.TheVariants as valu
 use Rattle.kt_tree.specs.Tokens.{is_keyword, is_sign, is_soft_keyword, is_identifier}
 use Rattle.kt_tree.specs.Types.{TypeTree}
 use Rattle.kt_tree.specs.Declarations as d
-use Rattle.kt_tree.specs.Declarations.{TypeParameterTree, TypedParameterTree, FunctionBodyTree, FunctionTree, ConstructorParameterTree, SupertypeTree, PropertyTree, MemberTree, ClassTree, InterfaceTree, ConstantTree, DeclarationTree}
+use Rattle.kt_tree.specs.Declarations.{
+  TypeParameterTree,
+  TypedParameterTree,
+  FunctionBodyTree,
+  FunctionTree,
+  ConstructorParameterTree,
+  SupertypeTree,
+  PropertyTree,
+  MemberTree,
+  ClassTree,
+  InterfaceTree,
+  ConstantTree,
+  DeclarationTree,
+}
 use Rattle.kt_grammar_parsers.specs.Parsers.{Outcome, Parser, cursor, ◌>>=◌, ◌>>◌, pure, token, on, attempt, repeat}
 use Rattle.kt_grammar.specs.Terminals.{name_of, is_end, is_open_quote, is_close_quote, literal_of, text_of, variable_of}
-use Rattle.kt_grammar.specs.Declarations.{Scope, Modified, first_place, start_of, has_body, may_be_generic, kind_of, arguments_at, outside, most_levels, at_top, in_class, in_interface}
-use Rattle.kt_grammar.specs.Readers.{meant, on_if, lines, expect, maybe, commas, maybe_commas, several_items, separated, named_type, type_parser}
+use Rattle.kt_grammar.specs.Declarations.{
+  Scope,
+  Modified,
+  first_place,
+  start_of,
+  has_body,
+  may_be_generic,
+  kind_of,
+  arguments_at,
+  outside,
+  most_levels,
+  at_top,
+  in_class,
+  in_interface,
+}
+use Rattle.kt_grammar.specs.Readers.{
+  meant,
+  on_if,
+  lines,
+  expect,
+  maybe,
+  commas,
+  maybe_commas,
+  several_items,
+  separated,
+  named_type,
+  type_parser,
+}
 use Rattle.kt_grammar.specs.ExpressionParser.{Parsers, block_of}
 use Rattle.kt_grammar.specs.StatementParser.{parsers}
 
@@ -39,8 +97,11 @@ abbrev pub type_parameters : Parser Token (List TypeParameterTree)
 type_parameters = on (is_sign sign.Less) (λ _. commas (is_sign sign.Greater) type_parameter) (pure [])
 
 abbrev pub typed_parameter : Parser Token TypedParameterTree
-typed_parameter = token is_identifier
-    >>= (λ x. expect sign.Colon >> (any_type >>= (λ t. pure (record { name = name_of x; annotation = t }))))
+typed_parameter = do
+  x ← token is_identifier
+  expect sign.Colon
+  t ← any_type
+  pure (record { name = name_of x; annotation = t })
 
 -- one modifier more, where it doesn't stand yet, else the other
 abbrev pub modifier : {M B : Type 0} → SoftKeyword → (M → Bool) → (M → M) → Modified M → Parser Token (Modified M ⊎ B)
@@ -80,21 +141,23 @@ generic_if true = type_parameters
 generic_if false = pure []
 
 abbrev pub function_parser : Scope → Parser Token FunctionTree
-function_parser scope = fun_word
-    >>= (λ m. generic_if (may_be_generic scope)
-    >>= (λ ts. token is_identifier
-    >>= (λ x. expect sign.OpenParenthesis >> (maybe_commas (is_sign sign.CloseParenthesis) typed_parameter >>= (λ ps.
-    maybe (is_sign sign.Colon) any_type
-    >>= (λ r. body_if (has_body scope m.1) (is_some r)
-    >>= (λ b. pure (record {
-      at = m.0;
-      modifiers = m.1;
-      type_parameters = ts;
-      name = name_of x;
-      parameters = ps;
-      result = r;
-      body = b;
-    }))))))))
+function_parser scope = do
+  m ← fun_word
+  ts ← generic_if (may_be_generic scope)
+  x ← token is_identifier
+  expect sign.OpenParenthesis
+  ps ← maybe_commas (is_sign sign.CloseParenthesis) typed_parameter
+  r ← maybe (is_sign sign.Colon) any_type
+  b ← body_if (has_body scope m.1) (is_some r)
+  pure (record {
+    at = m.0;
+    modifiers = m.1;
+    type_parameters = ts;
+    name = name_of x;
+    parameters = ps;
+    result = r;
+    body = b;
+  })
 
 abbrev pub constructor_parameter : Parser Token ConstructorParameterTree
 constructor_parameter = attempt (meant kind_of) (λ k. pure k.1) (pure parameter.Plain)
@@ -122,11 +185,12 @@ members item = attempt (lines >> expect sign.OpenBrace)
     (λ _. separated (is_sign sign.CloseBrace) item >>= (λ ms. pure ms.0)) (pure [])
 
 abbrev pub property_rest : Token × Bool → Parser Token PropertyTree
-property_rest var = typed_parameter
-    >>= (λ p. expect sign.Assign
-    >> (lines >> (top.disjunction outside
-    >>= (λ a. pure (record
-    { at = var.0.pos; is_variable = var.1; name = p.name; annotation = p.annotation; initializer = a })))))
+property_rest var = do
+  p ← typed_parameter
+  expect sign.Assign
+  lines
+  a ← top.disjunction outside
+  pure (record { at = var.0.pos; is_variable = var.1; name = p.name; annotation = p.annotation; initializer = a })
 
 abbrev pub member : Parser Token MemberTree
 member = attempt (meant variable_of) (λ var. property_rest var >>= (λ p. pure (d.property p)))
@@ -144,33 +208,44 @@ class_word = repeat class_turn
 
 -- behind 'class'
 abbrev pub class_rest : Pos × ClassModifiers → Parser Token ClassTree
-class_rest m = token is_identifier
-    >>= (λ x. type_parameters
-    >>= (λ ts. constructor_parameters >>= (λ ps. supertypes supertype >>= (λ ss. members member >>= (λ ms.
-    pure (record {
-      at = m.0;
-      modifiers = m.1;
-      name = name_of x;
-      type_parameters = ts;
-      parameters = ps;
-      supertypes = ss;
-      members = ms;
-    }))))))
+class_rest m = do
+  x ← token is_identifier
+  ts ← type_parameters
+  ps ← constructor_parameters
+  ss ← supertypes supertype
+  ms ← members member
+  pure (record {
+    at = m.0;
+    modifiers = m.1;
+    name = name_of x;
+    type_parameters = ts;
+    parameters = ps;
+    supertypes = ss;
+    members = ms;
+  })
 
 abbrev pub interface_rest : Token → Parser Token InterfaceTree
-interface_rest t = token is_identifier
-    >>= (λ x. type_parameters >>= (λ ts. supertypes parent >>= (λ ss. members (function_parser in_interface) >>= (λ fs.
-    pure (record { at = t.pos; name = name_of x; type_parameters = ts; supertypes = ss; functions = fs })))))
+interface_rest t = do
+  x ← token is_identifier
+  ts ← type_parameters
+  ss ← supertypes parent
+  fs ← members (function_parser in_interface)
+  pure (record { at = t.pos; name = name_of x; type_parameters = ts; supertypes = ss; functions = fs })
 
 abbrev pub enum_entry : Parser Token EnumEntry
 enum_entry = token is_identifier >>= (λ t. pure (record { at = t.pos; name = name_of t }))
 
 abbrev pub enum_rest : Token → Parser Token DeclarationTree
-enum_rest t = token (is_keyword word.Class)
-    >> (token is_identifier
-    >>= (λ x. lines >> (expect sign.OpenBrace
-    >> (lines >> (several_items lines enum_entry >>= (λ es. lines >> (expect sign.CloseBrace >>
-    pure (d.enum (record { at = t.pos; name = name_of x; entries = es })))))))))
+enum_rest t = do
+  token (is_keyword word.Class)
+  x ← token is_identifier
+  lines
+  expect sign.OpenBrace
+  lines
+  es ← several_items lines enum_entry
+  lines
+  expect sign.CloseBrace
+  pure (d.enum (record { at = t.pos; name = name_of x; entries = es }))
 
 abbrev pub text_turn : List TextPart → Parser Token (List TextPart ⊎ List TextPart)
 text_turn ps = attempt (meant text_of) (λ t. pure (inl (ps ++ t.1 ∷ [])))
@@ -182,10 +257,14 @@ constant_value = on is_open_quote (λ _. repeat text_turn [] >>= (λ ps. pure (v
     >>= (λ minus. meant literal_of >>= (λ l. pure (value.Literal minus l.1))))
 
 abbrev pub constant_rest : Token → Parser Token ConstantTree
-constant_rest t = token (is_keyword word.Val)
-    >> (token is_identifier
-    >>= (λ x. maybe (is_sign sign.Colon) any_type >>= (λ a. expect sign.Assign >> (lines >> (constant_value >>= (λ v.
-    pure (record { at = t.pos; name = name_of x; annotation = a; value = v })))))))
+constant_rest t = do
+  token (is_keyword word.Val)
+  x ← token is_identifier
+  a ← maybe (is_sign sign.Colon) any_type
+  expect sign.Assign
+  lines
+  v ← constant_value
+  pure (record { at = t.pos; name = name_of x; annotation = a; value = v })
 
 -- a function and a class may begin with the same modifiers
 abbrev pub declaration_parser : Parser Token DeclarationTree

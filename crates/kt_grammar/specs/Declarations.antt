@@ -19,11 +19,52 @@ use Rattle.kt_tree.specs.Tokens.{is_keyword, is_sign}
 use Rattle.kt_tree.specs.Types.{TypeTree}
 use Rattle.kt_tree.specs.Bodies.{ExpressionTree}
 use Rattle.kt_tree.specs.Declarations as d
-use Rattle.kt_tree.specs.Declarations.{TypeParameterTree, TypedParameterTree, FunctionBodyTree, FunctionTree, ConstructorParameterTree, SuperArgumentsTree, SupertypeTree, PropertyTree, MemberTree, ClassTree, InterfaceTree, ConstantTree, DeclarationTree}
+use Rattle.kt_tree.specs.Declarations.{
+  TypeParameterTree,
+  TypedParameterTree,
+  FunctionBodyTree,
+  FunctionTree,
+  ConstructorParameterTree,
+  SuperArgumentsTree,
+  SupertypeTree,
+  PropertyTree,
+  MemberTree,
+  ClassTree,
+  InterfaceTree,
+  ConstantTree,
+  DeclarationTree,
+}
 use Rattle.kt_grammar_parsers.specs.Phrases.{IsToken, Seq, Either, Loop, If, Where}
 use Rattle.kt_grammar_parsers.specs.Sentences.{IsSentence, IsRefusedAt, OneValue}
-use Rattle.kt_grammar.specs.Terminals.{Meaning, means, nothing, name_of, is_end, is_open_quote, is_close_quote, literal_of, text_of, variable_of}
-use Rattle.kt_grammar.specs.Words.{Empty, Gives, IsSign, IsKeyword, IsSoftKeyword, IsIdentifier, IsMeant, IsLines, IsPast, Maybe, CommaList, MaybeCommaList, Several, Items, Directly}
+use Rattle.kt_grammar.specs.Terminals.{
+  Meaning,
+  means,
+  nothing,
+  name_of,
+  is_end,
+  is_open_quote,
+  is_close_quote,
+  literal_of,
+  text_of,
+  variable_of,
+}
+use Rattle.kt_grammar.specs.Words.{
+  Empty,
+  Gives,
+  IsSign,
+  IsKeyword,
+  IsSoftKeyword,
+  IsIdentifier,
+  IsMeant,
+  IsLines,
+  IsPast,
+  Maybe,
+  CommaList,
+  MaybeCommaList,
+  Several,
+  Items,
+  Directly,
+}
 use Rattle.kt_grammar.specs.Types.{IsType, IsNamedType}
 use Rattle.kt_grammar.specs.Levels.{Phrases, place}
 use Rattle.kt_grammar.specs.declared.context.Context.{Context}
@@ -131,7 +172,8 @@ may_be_generic at_top = true
 may_be_generic _ = false
 
 -- fun : fmod* 'fun' tparams? ID '(' params? ')' (':' type)? (n block | '=' n expr)?      params : param (',' param)*
--- There is no body exactly where it is abstract or in an interface. In a class or an interface it has no type parameters.
+-- There is no body exactly where it is abstract or in an interface. In a class or an interface it has no type
+-- parameters.
 abbrev pub IsFunction : Scope → FunctionTree → List Token → List Token → Type 0
 IsFunction scope = Seq IsFun
     (λ m. Seq (If (may_be_generic scope) IsTypeParameters (Gives []))

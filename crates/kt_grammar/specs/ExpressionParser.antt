@@ -1,5 +1,23 @@
 -- Parsers of expressions.
-use Rattle.std.specs.Prelude.{ℕ, ◌+◌, Bool, true, false, not, nat_lt, nat_le, List, [], ◌∷◌, ◌++◌, Option, None, Some, is_some, ◌⊎◌}
+use Rattle.std.specs.Prelude.{
+  ℕ,
+  ◌+◌,
+  Bool,
+  true,
+  false,
+  not,
+  nat_lt,
+  nat_le,
+  List,
+  [],
+  ◌∷◌,
+  ◌++◌,
+  Option,
+  None,
+  Some,
+  is_some,
+  ◌⊎◌,
+}
 use Rattle.std.proofs.Common.{inl, inr}
 use Rattle.kt_base.specs.declared.refusals.Pos.{Pos}
 use Rattle.kt_tree.specs.declared.tokens.Token.{Token}
@@ -10,14 +28,81 @@ use Rattle.kt_tree.specs.declared.bodies.BinaryOperator.{BinaryOperator}
 use Rattle.kt_tree.specs.Tokens.{is_keyword, is_sign, is_soft_keyword, is_new_line, is_identifier}
 use Rattle.kt_tree.specs.Types.{TypeTree}
 use Rattle.kt_tree.specs.Bodies as e
-use Rattle.kt_tree.specs.Bodies.{ExpressionTree, PartTree, ParameterTree, StatementTree, BodyTree, BlockTree, EntryTree, ConditionTree, CatchTree, expressions_of, parts_of, entries_of, conditions_of, catches_of, statements_of, maybe_expression}
+use Rattle.kt_tree.specs.Bodies.{
+  ExpressionTree,
+  PartTree,
+  ParameterTree,
+  StatementTree,
+  BodyTree,
+  BlockTree,
+  EntryTree,
+  ConditionTree,
+  CatchTree,
+  expressions_of,
+  parts_of,
+  entries_of,
+  conditions_of,
+  catches_of,
+  statements_of,
+  maybe_expression,
+}
 use Rattle.kt_tree.specs.Levels.{levels, parts_levels}
-use Rattle.kt_grammar_parsers.specs.Parsers.{some_levels, Parser, ◌>>=◌, ◌>>◌, pure, token, on, attempt, attempt_if, where_next, ahead, repeat, chain}
-use Rattle.kt_grammar.specs.Terminals.{begins_expression, is_no_arrow, opens_arguments, name_of, is_open_quote, is_close_quote, is_name_part, is_this_part, is_open_template, literal_of, text_of, disjunction_of, conjunction_of, equality_of, comparison_of, elvis_of, infix_of, additive_of, multiplicative_of, prefix_of, type_check_of, cast_of, member_of}
+use Rattle.kt_grammar_parsers.specs.Parsers.{
+  some_levels,
+  Parser,
+  ◌>>=◌,
+  ◌>>◌,
+  pure,
+  token,
+  on,
+  attempt,
+  attempt_if,
+  where_next,
+  ahead,
+  repeat,
+  chain,
+}
+use Rattle.kt_grammar.specs.Terminals.{
+  begins_expression,
+  is_no_arrow,
+  opens_arguments,
+  name_of,
+  is_open_quote,
+  is_close_quote,
+  is_name_part,
+  is_this_part,
+  is_open_template,
+  literal_of,
+  text_of,
+  disjunction_of,
+  conjunction_of,
+  equality_of,
+  comparison_of,
+  elvis_of,
+  infix_of,
+  additive_of,
+  multiplicative_of,
+  prefix_of,
+  type_check_of,
+  cast_of,
+  member_of,
+}
 use Rattle.kt_grammar.specs.Levels.{place, ends_in_name}
 use Rattle.kt_grammar.specs.declared.context.Context.{Context}
 use Rattle.kt_grammar.specs.Expressions.{in_lambda}
-use Rattle.kt_grammar.specs.Readers.{refuse, meant, on_if, lines, expect, maybe, maybe_commas, several_items, separated, type_arguments, type_parser}
+use Rattle.kt_grammar.specs.Readers.{
+  refuse,
+  meant,
+  on_if,
+  lines,
+  expect,
+  maybe,
+  commas,
+  maybe_commas,
+  several_items,
+  separated,
+  type_parser,
+}
 
 -- parsers of what a production may hold
 pub record Parsers : Type 0 where
@@ -68,11 +153,11 @@ module _ (room : ℕ) (below : Parsers) (at : Context) where
   abbrev pub has_more : ExpressionTree → Bool
   has_more a = nat_lt (levels a) room
 
-  abbrev pub called : ExpressionTree → List TypeTree → List ExpressionTree → ExpressionTree
-  called f ts es = e.call (place f) f ts (expressions_of es)
+  abbrev pub called : ExpressionTree → Pos → List TypeTree → List ExpressionTree → ExpressionTree
+  called f start ts es = e.call (place f) f start ts (expressions_of es)
 
   abbrev pub has_call : ExpressionTree → Bool
-  has_call f = nat_le (levels (called f [] [])) room
+  has_call f = nat_le (levels (called f (place f) [] [])) room
 
   abbrev pub part_if : Bool → Parser Token PartTree
   part_if true = below.part at
@@ -88,12 +173,18 @@ module _ (room : ℕ) (below : Parsers) (at : Context) where
       (next_part ps >>= (λ p. pure (inl (ps ++ p ∷ []))))
 
   abbrev pub lambda_head : Parser Token (List ParameterTree)
-  lambda_head = several_items (pure tt) below.parameter >>= (λ ps. lines >> (expect sign.Arrow >> pure ps))
+  lambda_head = do
+    ps ← several_items (pure tt) below.parameter
+    lines
+    expect sign.Arrow
+    pure ps
 
   abbrev pub lambda_rest : Token → Parser Token ExpressionTree
-  lambda_rest t = lines
-      >> (attempt_if deep lambda_head (λ ps. pure ps) (pure [])
-      >>= (λ ps. block_rest (below.statement in_lambda) >>= (λ b. pure (e.lambda t.pos (e.lambda_of ps b)))))
+  lambda_rest t = do
+    lines
+    ps ← attempt_if deep lambda_head (λ ps. pure ps) (pure [])
+    b ← block_rest (below.statement in_lambda)
+    pure (e.lambda t.pos (e.lambda_of ps b))
 
   abbrev pub lambda_parser : Parser Token ExpressionTree
   lambda_parser = expect sign.OpenBrace >>= lambda_rest
@@ -103,27 +194,42 @@ module _ (room : ℕ) (below : Parsers) (at : Context) where
       (lines >> token (is_keyword word.Else)) >> (lines >> ahead is_no_arrow)
 
   abbrev pub if_rest : Token → Parser Token ExpressionTree
-  if_rest t = expect sign.OpenParenthesis
-      >> (below.disjunction at >>= (λ a. expect sign.CloseParenthesis >> (lines >> (below.body at >>= (λ b.
-      attempt else_word (λ _. below.body at >>= (λ c. pure (e.if_else t.pos a b (e.some_body c))))
-      (pure (e.if_else t.pos a b e.no_body)))))))
+  if_rest t = do
+    expect sign.OpenParenthesis
+    a ← below.disjunction at
+    expect sign.CloseParenthesis
+    lines
+    b ← below.body at
+    attempt else_word (λ _. below.body at >>= (λ c. pure (e.if_else t.pos a b (e.some_body c))))
+        (pure (e.if_else t.pos a b e.no_body))
 
   abbrev pub subject : Parser Token (Option ExpressionTree)
   subject = on_if deep (is_sign sign.OpenParenthesis)
       (λ _. below.disjunction at >>= (λ a. expect sign.CloseParenthesis >> pure (Some a))) (pure None)
 
   abbrev pub when_rest : Token → Parser Token ExpressionTree
-  when_rest t = subject
-      >>= (λ a. lines >> (expect sign.OpenBrace
-      >> (separated (is_sign sign.CloseBrace) (below.entry at (is_some a))
-      >>= (λ es. pure (e.when t.pos (maybe_expression a) (entries_of es.0))))))
+  when_rest t = do
+    a ← subject
+    lines
+    expect sign.OpenBrace
+    es ← separated (is_sign sign.CloseBrace) (below.entry at (is_some a))
+    pure (e.when t.pos (maybe_expression a) (entries_of es.0))
 
   abbrev pub catch_head : Parser Token Token
-  catch_head = lines >> (token (is_soft_keyword soft.Catch)
-      >> (expect sign.OpenParenthesis >> (token is_identifier >>= (λ x. expect sign.Colon >> pure x))))
+  catch_head = do
+    lines
+    token (is_soft_keyword soft.Catch)
+    expect sign.OpenParenthesis
+    x ← token is_identifier
+    expect sign.Colon
+    pure x
 
   abbrev pub finally_head : Parser Token Token
-  finally_head = lines >> (token (is_soft_keyword soft.Finally) >> (lines >> expect sign.OpenBrace))
+  finally_head = do
+    lines
+    token (is_soft_keyword soft.Finally)
+    lines
+    expect sign.OpenBrace
 
   abbrev pub catch_turn : List CatchTree → Parser Token (List CatchTree ⊎ List CatchTree)
   catch_turn cs = attempt_if deep catch_head (λ x. below.catch at (name_of x) >>= (λ c. pure (inl (cs ++ c ∷ []))))
@@ -134,10 +240,13 @@ module _ (room : ℕ) (below : Parsers) (at : Context) where
   no_finally start b (c ∷ cs) = pure (e.try_catch start b (catches_of (c ∷ cs)) e.no_block)
 
   abbrev pub try_rest : Token → Parser Token ExpressionTree
-  try_rest t = lines >> (block_of (below.statement at) >>= (λ b. repeat catch_turn [] >>= (λ cs.
-      attempt finally_head
-      (λ _. block_rest (below.statement at) >>= (λ f. pure (e.try_catch t.pos b (catches_of cs) (e.some_block f))))
-      (no_finally t.pos b cs))))
+  try_rest t = do
+    lines
+    b ← block_of (below.statement at)
+    cs ← repeat catch_turn []
+    attempt finally_head
+        (λ _. block_rest (below.statement at) >>= (λ f. pure (e.try_catch t.pos b (catches_of cs) (e.some_block f))))
+        (no_finally t.pos b cs)
 
   abbrev pub primary : Parser Token ExpressionTree
   primary = on_if deep (is_sign sign.OpenParenthesis)
@@ -163,12 +272,17 @@ module _ (room : ℕ) (below : Parsers) (at : Context) where
   arguments_rest = maybe_commas (is_sign sign.CloseParenthesis) (below.disjunction at)
       >>= (λ es. where_next (is_sign sign.OpenBrace) (below.lambda at >>= (λ l. pure (es ++ l ∷ []))) (pure es))
 
-  -- a call behind its type arguments
-  abbrev pub call_parser : Parser Token (List ExpressionTree)
-  call_parser = on (is_sign sign.OpenParenthesis) (λ _. arguments_rest) (below.lambda at >>= (λ l. pure (l ∷ [])))
+  -- a call behind its type arguments, with the place of its first token
+  abbrev pub call_parser : Parser Token (List ExpressionTree × Pos)
+  call_parser =
+      on (is_sign sign.OpenParenthesis) (λ t. arguments_rest >>= (λ es. pure (es, t.pos)))
+      (below.lambda at >>= (λ l. pure (l ∷ [], place l)))
 
-  abbrev pub call_of : ExpressionTree → List TypeTree → Parser Token (ExpressionTree ⊎ ExpressionTree)
-  call_of a ts = call_parser >>= (λ es. pure (inl (called a ts es)))
+  abbrev pub call_of : ExpressionTree → List TypeTree × Pos → Parser Token (ExpressionTree ⊎ ExpressionTree)
+  call_of a ts = call_parser >>= (λ es. pure (inl (called a ts.1 ts.0 es.0)))
+
+  abbrev pub plain_call : ExpressionTree → Parser Token (ExpressionTree ⊎ ExpressionTree)
+  plain_call a = call_parser >>= (λ es. pure (inl (called a es.1 [] es.0)))
 
   -- behind '['
   abbrev pub element : ExpressionTree → Parser Token (ExpressionTree ⊎ ExpressionTree)
@@ -178,13 +292,16 @@ module _ (room : ℕ) (below : Parsers) (at : Context) where
   abbrev pub member : ExpressionTree → Bool → Parser Token (ExpressionTree ⊎ ExpressionTree)
   member a safe = lines >> (token is_identifier >>= (λ x. pure (inl (e.member (place a) a safe (name_of x)))))
 
-  abbrev pub type_arguments_of_call : Parser Token (List TypeTree)
-  type_arguments_of_call = type_arguments (type_parser room)
-      >>= (λ ts. ahead opens_arguments >> pure ts)
+  abbrev pub type_arguments_of_call : Parser Token (List TypeTree × Pos)
+  type_arguments_of_call = do
+    t ← expect sign.Less
+    ts ← commas (is_sign sign.Greater) (type_parser room)
+    ahead opens_arguments
+    pure (ts, t.pos)
 
   abbrev pub suffix_turn : ExpressionTree → Parser Token (ExpressionTree ⊎ ExpressionTree)
   suffix_turn a = attempt_if (ends_in_name a) type_arguments_of_call (call_of a)
-      (attempt_if (has_call a) (ahead opens_arguments) (λ _. call_of a [])
+      (attempt_if (has_call a) (ahead opens_arguments) (λ _. plain_call a)
       (on_if (has_more a) (is_sign sign.NotNull) (λ _. pure (inl (e.not_null (place a) a)))
       (on_if (has_more a) (is_sign sign.OpenBracket) (λ _. element a)
       (attempt_if (has_more a) (lines >> meant member_of) (λ safe. member a safe.1) (pure (inr a))))))

@@ -1,5 +1,23 @@
 -- The grammar of expressions: each production over the phrases that have one level less.
-use Rattle.std.specs.Prelude.{ℕ, ◌+◌, Bool, true, false, not, nat_lt, nat_le, List, [], ◌∷◌, ◌++◌, Option, None, Some, is_some, ◌⊎◌}
+use Rattle.std.specs.Prelude.{
+  ℕ,
+  ◌+◌,
+  Bool,
+  true,
+  false,
+  not,
+  nat_lt,
+  nat_le,
+  List,
+  [],
+  ◌∷◌,
+  ◌++◌,
+  Option,
+  None,
+  Some,
+  is_some,
+  ◌⊎◌,
+}
 use Rattle.std.proofs.Common.{inl, inr}
 use Rattle.kt_base.specs.declared.refusals.Pos.{Pos}
 use Rattle.kt_tree.specs.declared.tokens.Token.{Token}
@@ -10,13 +28,80 @@ use Rattle.kt_tree.specs.declared.bodies.BinaryOperator.{BinaryOperator}
 use Rattle.kt_tree.specs.Tokens.{is_new_line, is_sign}
 use Rattle.kt_tree.specs.Types.{TypeTree}
 use Rattle.kt_tree.specs.Bodies as e
-use Rattle.kt_tree.specs.Bodies.{ExpressionTree, PartTree, ParameterTree, StatementTree, BlockTree, EntryTree, ConditionTree, CatchTree, expressions_of, parts_of, entries_of, conditions_of, catches_of, statements_of, maybe_expression}
+use Rattle.kt_tree.specs.Bodies.{
+  ExpressionTree,
+  PartTree,
+  ParameterTree,
+  StatementTree,
+  BlockTree,
+  EntryTree,
+  ConditionTree,
+  CatchTree,
+  expressions_of,
+  parts_of,
+  entries_of,
+  conditions_of,
+  catches_of,
+  statements_of,
+  maybe_expression,
+}
 use Rattle.kt_tree.specs.Levels.{levels, parts_levels}
 use Rattle.kt_grammar_parsers.specs.Parsers.{some_levels}
-use Rattle.kt_grammar_parsers.specs.Phrases.{Chain, IsToken, Seq, Either, Loop, If, Where, WhereNext, WhereRoom, IsAhead}
-use Rattle.kt_grammar.specs.Terminals.{begins_expression, is_no_arrow, opens_arguments, name_of, is_open_quote, is_close_quote, is_name_part, is_this_part, is_open_template, literal_of, text_of, disjunction_of, conjunction_of, equality_of, comparison_of, elvis_of, infix_of, additive_of, multiplicative_of, prefix_of, type_check_of, cast_of, member_of}
-use Rattle.kt_grammar.specs.Words.{Empty, Gives, IsSign, IsKeyword, IsSoftKeyword, IsIdentifier, IsMeant, IsLines, IsPast, Maybe, MaybeCommaList, Several, Items, Directly}
-use Rattle.kt_grammar.specs.Types.{IsType, IsTypeArguments}
+use Rattle.kt_grammar_parsers.specs.Phrases.{
+  Chain,
+  IsToken,
+  Seq,
+  Either,
+  Loop,
+  If,
+  Where,
+  WhereNext,
+  WhereRoom,
+  IsAhead,
+}
+use Rattle.kt_grammar.specs.Terminals.{
+  begins_expression,
+  is_no_arrow,
+  opens_arguments,
+  name_of,
+  is_open_quote,
+  is_close_quote,
+  is_name_part,
+  is_this_part,
+  is_open_template,
+  literal_of,
+  text_of,
+  disjunction_of,
+  conjunction_of,
+  equality_of,
+  comparison_of,
+  elvis_of,
+  infix_of,
+  additive_of,
+  multiplicative_of,
+  prefix_of,
+  type_check_of,
+  cast_of,
+  member_of,
+}
+use Rattle.kt_grammar.specs.Words.{
+  Empty,
+  Gives,
+  IsSign,
+  IsKeyword,
+  IsSoftKeyword,
+  IsIdentifier,
+  IsMeant,
+  IsLines,
+  IsPast,
+  Maybe,
+  CommaList,
+  MaybeCommaList,
+  Several,
+  Items,
+  Directly,
+}
+use Rattle.kt_grammar.specs.Types.{IsType}
 use Rattle.kt_grammar.specs.Levels.{Phrases, place, ends_in_name}
 use Rattle.kt_grammar.specs.declared.context.Context.{Context}
 
@@ -170,38 +255,45 @@ module _ (room : ℕ) (below : Phrases) (at : Context) where
   abbrev pub IsContinue : ExpressionTree → List Token → List Token → Type 0
   IsContinue = If at.in_loop (Seq (IsKeyword word.Continue) (λ t. Gives (e.continue t.pos))) Empty
 
-  -- primary : '(' expr ')' | if | 'throw' expr | 'return' expr? | 'break' | 'continue' | lambda | when | try | string | 'this'
-  --         | ID | literal
+  -- primary : '(' expr ')' | if | 'throw' expr | 'return' expr? | 'break' | 'continue' | lambda | when | try | string
+  --         | 'this' | ID | literal
   abbrev pub IsPrimary : ExpressionTree → List Token → List Token → Type 0
   IsPrimary = Either IsParenthesized (Either IsIf (Either IsThrow (Either IsReturn (Either IsBreak (Either IsContinue
       (Either IsLambda (Either IsWhen (Either IsTry (Either IsString (Either IsThis (Either IsName IsLiteral)))))))))))
 
-  -- '(' args? ')' lambda?      args : expr (',' expr)*
+  -- args? ')' lambda?, behind '('      args : expr (',' expr)*
   -- A lambda that follows is the last argument; it follows where a `{` does.
   abbrev pub IsArguments : List ExpressionTree → List Token → List Token → Type 0
-  IsArguments = Seq (IsSign sign.OpenParenthesis)
-      (λ _. Seq (MaybeCommaList (is_sign sign.CloseParenthesis) (below.disjunction at))
-      (λ es. WhereNext (is_sign sign.OpenBrace) (Seq (below.lambda at) (λ l. Gives (es ++ l ∷ []))) (Gives es)))
+  IsArguments =
+      Seq (MaybeCommaList (is_sign sign.CloseParenthesis) (below.disjunction at))
+      (λ es. WhereNext (is_sign sign.OpenBrace) (Seq (below.lambda at) (λ l. Gives (es ++ l ∷ []))) (Gives es))
 
-  -- call : '(' args? ')' lambda? | lambda, behind its type arguments
-  abbrev pub IsCall : List ExpressionTree → List Token → List Token → Type 0
-  IsCall = Either IsArguments (Seq (below.lambda at) (λ l. Gives (l ∷ [])))
+  -- call : '(' args? ')' lambda? | lambda, behind its type arguments, with the place of its first token
+  abbrev pub IsCall : List ExpressionTree × Pos → List Token → List Token → Type 0
+  IsCall =
+      Either (Seq (IsSign sign.OpenParenthesis) (λ t. Seq IsArguments (λ es. Gives (es, t.pos))))
+      (Seq (below.lambda at) (λ l. Gives (l ∷ [], place l)))
 
-  abbrev pub called : ExpressionTree → List TypeTree → List ExpressionTree → ExpressionTree
-  called f ts es = e.call (place f) f ts (expressions_of es)
+  -- a call whose suffix begins at this place
+  abbrev pub called : ExpressionTree → Pos → List TypeTree → List ExpressionTree → ExpressionTree
+  called f start ts es = e.call (place f) f start ts (expressions_of es)
 
   -- the call has room
   abbrev pub has_call : ExpressionTree → Bool
-  has_call f = nat_le (levels (called f [] [])) room
+  has_call f = nat_le (levels (called f (place f) [] [])) room
 
   -- there is room for one level more
   abbrev pub has_more : ExpressionTree → Bool
   has_more a = nat_lt (levels a) room
 
-  -- a call with these type arguments
-  abbrev pub IsCallOf : ExpressionTree → List TypeTree → ExpressionTree ⊎ ExpressionTree → List Token → List Token
-      → Type 0
-  IsCallOf a ts = Seq IsCall (λ es. Gives (inl (called a ts es)))
+  -- a call with these type arguments, where its suffix begins
+  abbrev pub IsCallOf : ExpressionTree → List TypeTree × Pos → ExpressionTree ⊎ ExpressionTree → List Token
+      → List Token → Type 0
+  IsCallOf a ts = Seq IsCall (λ es. Gives (inl (called a ts.1 ts.0 es.0)))
+
+  -- a call without type arguments
+  abbrev pub IsPlainCall : ExpressionTree → ExpressionTree ⊎ ExpressionTree → List Token → List Token → Type 0
+  IsPlainCall a = Seq IsCall (λ es. Gives (inl (called a es.1 [] es.0)))
 
   -- '[' expr ']', behind its '['
   abbrev pub IsElement : ExpressionTree → ExpressionTree ⊎ ExpressionTree → List Token → List Token → Type 0
@@ -212,16 +304,19 @@ module _ (room : ℕ) (below : Phrases) (at : Context) where
   abbrev pub IsMember : ExpressionTree → Bool → ExpressionTree ⊎ ExpressionTree → List Token → List Token → Type 0
   IsMember a safe = Seq (IsPast IsIdentifier) (λ x. Gives (inl (e.member (place a) a safe (name_of x))))
 
-  -- targs, and then '(' or '{'
-  abbrev pub IsTypeArgumentsOfCall : List TypeTree → List Token → List Token → Type 0
-  IsTypeArgumentsOfCall = Seq (IsTypeArguments (IsType room)) (λ ts. Seq (IsAhead opens_arguments) (λ _. Gives ts))
+  -- targs, and then '(' or '{'; with the place of the '<'
+  abbrev pub IsTypeArgumentsOfCall : List TypeTree × Pos → List Token → List Token → Type 0
+  IsTypeArgumentsOfCall =
+      Seq (IsSign sign.Less)
+      (λ t. Seq (CommaList (is_sign sign.Greater) (IsType room))
+      (λ ts. Seq (IsAhead opens_arguments) (λ _. Gives (ts, t.pos))))
 
   -- suffix : '!!' | call | '[' expr ']' | n ('.' | '?.') n ID      call : targs? ('(' args? ')' lambda? | lambda)
-  -- As many suffixes are taken as follow: one follows where its first token does. Where a name is followed by tokens that
-  -- read as type arguments and then `(` or `{`, they are read so.
+  -- As many suffixes are taken as follow: one follows where its first token does. Where a name is followed by tokens
+  -- that read as type arguments and then `(` or `{`, they are read so.
   abbrev pub SuffixTurn : ExpressionTree → ExpressionTree ⊎ ExpressionTree → List Token → List Token → Type 0
   SuffixTurn a = WhereRoom (ends_in_name a) IsTypeArgumentsOfCall (IsCallOf a)
-      (WhereRoom (has_call a) (IsAhead opens_arguments) (λ _. IsCallOf a [])
+      (WhereRoom (has_call a) (IsAhead opens_arguments) (λ _. IsPlainCall a)
       (WhereRoom (has_more a) (IsSign sign.NotNull) (λ _. Gives (inl (e.not_null (place a) a)))
       (WhereRoom (has_more a) (IsSign sign.OpenBracket) (λ _. IsElement a)
       (WhereRoom (has_more a) (IsPast (IsMeant member_of)) (λ safe. IsMember a safe.1) (Gives (inr a))))))

@@ -2,7 +2,16 @@
 use Rattle.std.specs.Prelude.{ℕ, Bool, true, false, List}
 use Rattle.kt_base.specs.declared.refusals.Pos.{Pos}
 use Rattle.kt_tree.specs.declared.tokens.Token.{Token}
-use Rattle.kt_tree.specs.Bodies.{ExpressionTree, StatementTree, BodyTree, PartTree, ParameterTree, EntryTree, ConditionTree, CatchTree}
+use Rattle.kt_tree.specs.Bodies.{
+  ExpressionTree,
+  StatementTree,
+  BodyTree,
+  PartTree,
+  ParameterTree,
+  EntryTree,
+  ConditionTree,
+  CatchTree,
+}
 use Rattle.kt_tree.specs.Bodies as e
 use Rattle.kt_grammar.specs.declared.context.Context.{Context}
 use Rattle.kt_grammar.specs.Words.{Empty}
@@ -72,7 +81,7 @@ place (e.cast at a safe t) = at
 place (e.not_null at a) = at
 place (e.member at a safe x) = at
 place (e.index at a b) = at
-place (e.call at f ts es) = at
+place (e.call at f start ts es) = at
 place (e.if_else at a b c) = at
 place (e.when at a es) = at
 place (e.try_catch at b cs f) = at

@@ -6,7 +6,25 @@ use Rattle.kt_tree.specs.declared.tokens.Sign.TheVariants as sign
 use Rattle.kt_tree.specs.declared.tokens.SoftKeyword.TheVariants as soft
 use Rattle.kt_tree.specs.Tokens.{is_sign, is_soft_keyword, is_new_line, is_identifier}
 use Rattle.kt_tree.specs.Types.{TypeTree, named, function, nullable, parenthesized, types_of}
-use Rattle.kt_grammar_parsers.specs.Parsers.{some_levels, Outcome, Parser, cursor, further, ◌>>=◌, ◌>>◌, pure, token, skip, on, attempt_if, ahead, comma_list, maybe_comma_list, several, items}
+use Rattle.kt_grammar_parsers.specs.Parsers.{
+  some_levels,
+  Outcome,
+  Parser,
+  cursor,
+  further,
+  ◌>>=◌,
+  ◌>>◌,
+  pure,
+  token,
+  skip,
+  on,
+  attempt_if,
+  ahead,
+  comma_list,
+  maybe_comma_list,
+  several,
+  items,
+}
 use Rattle.kt_grammar.specs.Terminals.{Meaning, is_separator, name_of}
 
 -- refuses the next token

@@ -5,7 +5,16 @@ use Rattle.kt_tree.specs.declared.tokens.Sign.TheVariants as sign
 use Rattle.kt_tree.specs.declared.tokens.Keyword.TheVariants as word
 use Rattle.kt_tree.specs.Tokens.{is_keyword, is_sign, is_identifier}
 use Rattle.kt_tree.specs.Bodies as e
-use Rattle.kt_tree.specs.Bodies.{ExpressionTree, StatementTree, BodyTree, EntryTree, ConditionTree, CatchTree, conditions_of, maybe_expression}
+use Rattle.kt_tree.specs.Bodies.{
+  ExpressionTree,
+  StatementTree,
+  BodyTree,
+  EntryTree,
+  ConditionTree,
+  CatchTree,
+  conditions_of,
+  maybe_expression,
+}
 use Rattle.kt_tree.specs.Levels.{levels}
 use Rattle.kt_grammar_parsers.specs.Parsers.{some_levels, first, Parser, ◌>>=◌, ◌>>◌, pure, token, on, attempt_if}
 use Rattle.kt_grammar.specs.Terminals.{name_of, variable_of, assignment_of, step_of, range_of, type_check_of}
@@ -13,7 +22,24 @@ use Rattle.kt_grammar.specs.Levels.{place, is_target}
 use Rattle.kt_grammar.specs.declared.context.Context.{Context}
 use Rattle.kt_grammar.specs.Statements.{in_loop}
 use Rattle.kt_grammar.specs.Readers.{refuse, meant, on_if, lines, expect, maybe, several_items, type_parser}
-use Rattle.kt_grammar.specs.ExpressionParser.{Parsers, part_of, parameter_of, block_rest, block_of, lambda_parser, prefix_parser, cast_parser, multiplicative_parser, additive_parser, infix_parser, test_parser, comparison_parser, equality_parser, conjunction_parser, disjunction_parser}
+use Rattle.kt_grammar.specs.ExpressionParser.{
+  Parsers,
+  part_of,
+  parameter_of,
+  block_rest,
+  block_of,
+  lambda_parser,
+  prefix_parser,
+  cast_parser,
+  multiplicative_parser,
+  additive_parser,
+  infix_parser,
+  test_parser,
+  comparison_parser,
+  equality_parser,
+  conjunction_parser,
+  disjunction_parser,
+}
 
 abbrev pub refused_if : {A : Type 0} → Bool → Parser Token A → Parser Token A
 refused_if true p = refuse
@@ -32,9 +58,11 @@ module _ (room : ℕ) (below : Parsers) (at : Context) where
       (pure None)
 
   abbrev pub local_rest : Token × Bool → Parser Token StatementTree
-  local_rest var = token is_identifier
-      >>= (λ name. maybe (is_sign sign.Colon) (type_parser room)
-      >>= (λ t. initializer >>= (λ a. pure (e.local var.0.pos var.1 (name_of name) t (maybe_expression a)))))
+  local_rest var = do
+    name ← token is_identifier
+    t ← maybe (is_sign sign.Colon) (type_parser room)
+    a ← initializer
+    pure (e.local var.0.pos var.1 (name_of name) t (maybe_expression a))
 
   abbrev pub assigns : ExpressionTree → Bool
   assigns a = is_target a && nat_lt (levels a) room
@@ -46,24 +74,37 @@ module _ (room : ℕ) (below : Parsers) (at : Context) where
       (attempt_if (assigns a) (meant step_of) (λ o. pure (e.step (place a) a o.1)) (pure (e.evaluate (place a) a))))
 
   abbrev pub while_rest : Token → Parser Token StatementTree
-  while_rest t = expect sign.OpenParenthesis
-      >> (below.disjunction at
-      >>= (λ a. expect sign.CloseParenthesis
-      >> (lines >> (below.body (in_loop at) >>= (λ b. pure (e.while t.pos a b))))))
+  while_rest t = do
+    expect sign.OpenParenthesis
+    a ← below.disjunction at
+    expect sign.CloseParenthesis
+    lines
+    b ← below.body (in_loop at)
+    pure (e.while t.pos a b)
 
   abbrev pub do_rest : Token → Parser Token StatementTree
-  do_rest t = lines >> (block_of (below.statement (in_loop at))
-      >>= (λ b. lines >> (token (is_keyword word.While)
-      >> (expect sign.OpenParenthesis
-      >> (below.disjunction at >>= (λ a. expect sign.CloseParenthesis >> pure (e.do_while t.pos b a)))))))
+  do_rest t = do
+    lines
+    b ← block_of (below.statement (in_loop at))
+    lines
+    token (is_keyword word.While)
+    expect sign.OpenParenthesis
+    a ← below.disjunction at
+    expect sign.CloseParenthesis
+    pure (e.do_while t.pos b a)
 
   abbrev pub for_rest : Token → Parser Token StatementTree
-  for_rest t = expect sign.OpenParenthesis
-      >> (token is_identifier
-      >>= (λ name. token (is_keyword word.In)
-      >> (below.additive at >>= (λ a. meant range_of >>= (λ o. below.additive at >>= (λ b.
-      expect sign.CloseParenthesis
-      >> (lines >> (below.body (in_loop at) >>= (λ body. pure (e.for t.pos (name_of name) a o.1 b body))))))))))
+  for_rest t = do
+    expect sign.OpenParenthesis
+    name ← token is_identifier
+    token (is_keyword word.In)
+    a ← below.additive at
+    o ← meant range_of
+    b ← below.additive at
+    expect sign.CloseParenthesis
+    lines
+    body ← below.body (in_loop at)
+    pure (e.for t.pos (name_of name) a o.1 b body)
 
   -- no statement begins with `{`
   abbrev pub statement_parser : Parser Token StatementTree
@@ -85,17 +126,24 @@ module _ (room : ℕ) (below : Parsers) (at : Context) where
   entry_head subject = on (is_keyword word.Else) (λ _. pure []) (several_items (pure tt) (below.condition at subject))
 
   abbrev pub entry_rest : List ConditionTree → Parser Token EntryTree
-  entry_rest cs = lines
-      >> (expect sign.Arrow >> (lines >> (below.body at >>= (λ b. pure (e.entry (conditions_of cs) b)))))
+  entry_rest cs = do
+    lines
+    expect sign.Arrow
+    lines
+    b ← below.body at
+    pure (e.entry (conditions_of cs) b)
 
   -- none where no level is left for its body
   abbrev pub entry_parser : Bool → Parser Token EntryTree
   entry_parser subject = refused_if (not deep) (entry_head subject >>= entry_rest)
 
   abbrev pub catch_parser : List ℕ → Parser Token CatchTree
-  catch_parser name = type_parser room
-      >>= (λ t. expect sign.CloseParenthesis
-      >> (lines >> (block_of (below.statement at) >>= (λ b. pure (e.catch name t b)))))
+  catch_parser name = do
+    t ← type_parser room
+    expect sign.CloseParenthesis
+    lines
+    b ← block_of (below.statement at)
+    pure (e.catch name t b)
 
 abbrev pub no_parsers : Parsers
 no_parsers = record {

@@ -5,16 +5,52 @@ use Rattle.kt_tree.specs.declared.tokens.Sign.TheVariants as sign
 use Rattle.kt_tree.specs.declared.tokens.Keyword.TheVariants as word
 use Rattle.kt_tree.specs.Tokens.{is_sign}
 use Rattle.kt_tree.specs.Bodies as e
-use Rattle.kt_tree.specs.Bodies.{ExpressionTree, StatementTree, BodyTree, EntryTree, ConditionTree, CatchTree, conditions_of, maybe_expression}
+use Rattle.kt_tree.specs.Bodies.{
+  ExpressionTree,
+  StatementTree,
+  BodyTree,
+  EntryTree,
+  ConditionTree,
+  CatchTree,
+  conditions_of,
+  maybe_expression,
+}
 use Rattle.kt_grammar_parsers.specs.Parsers.{some_levels, first}
 use Rattle.kt_grammar_parsers.specs.Phrases.{Seq, Either, If, WhereRoom}
 use Rattle.kt_grammar.specs.Terminals.{name_of, variable_of, assignment_of, step_of, range_of, type_check_of}
-use Rattle.kt_grammar.specs.Words.{Empty, Gives, IsSign, IsKeyword, IsIdentifier, IsMeant, IsPast, Maybe, Several, Directly}
+use Rattle.kt_grammar.specs.Words.{
+  Empty,
+  Gives,
+  IsSign,
+  IsKeyword,
+  IsIdentifier,
+  IsMeant,
+  IsPast,
+  Maybe,
+  Several,
+  Directly,
+}
 use Rattle.kt_grammar.specs.Types.{IsType}
 use Rattle.kt_grammar.specs.Levels.{Phrases, none, place, is_target}
 use Rattle.kt_grammar.specs.declared.context.Context.{Context}
 use Rattle.kt_grammar.specs.Expressions as x
-use Rattle.kt_grammar.specs.Expressions.{IsBlock, IsPart, IsParameter, IsLambda, IsDisjunction, IsConjunction, IsEquality, IsComparison, IsTest, IsElvis, IsInfix, IsAdditive, IsMultiplicative, IsCast, IsPrefixed}
+use Rattle.kt_grammar.specs.Expressions.{
+  IsBlock,
+  IsPart,
+  IsParameter,
+  IsLambda,
+  IsDisjunction,
+  IsConjunction,
+  IsEquality,
+  IsComparison,
+  IsTest,
+  IsElvis,
+  IsInfix,
+  IsAdditive,
+  IsMultiplicative,
+  IsCast,
+  IsPrefixed,
+}
 
 -- the body of a loop
 abbrev pub in_loop : Context → Context

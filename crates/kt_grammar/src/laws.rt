@@ -1,7 +1,24 @@
 //! Laws on the grammar. A body has nothing to do: the contract is the law.
 
 ghost use Rattle.kt_grammar.specs.Declarations.{OneTree};
-ghost use Rattle.kt_grammar.specs.Laws.{ExpressionIsRead, ExpressionIsRefused, ExpressionReadsExpressions, FileHasLevels, FileIsRead, FileIsRefused, FileReadsFiles, OneExpression, OneStatement, OneType, StatementIsRead, StatementIsRefused, StatementReadsStatements, TypeIsRead, TypeIsRefused, TypeReadsTypes};
+ghost use Rattle.kt_grammar.specs.Laws.{
+  ExpressionIsRead,
+  ExpressionIsRefused,
+  ExpressionReadsExpressions,
+  FileHasLevels,
+  FileIsRead,
+  FileIsRefused,
+  FileReadsFiles,
+  OneExpression,
+  OneStatement,
+  OneType,
+  StatementIsRead,
+  StatementIsRefused,
+  StatementReadsStatements,
+  TypeIsRead,
+  TypeIsRefused,
+  TypeReadsTypes,
+};
 
 /// A list of tokens spells at most one type.
 #[tactic(auto, using(crate::proofs::types::TypeLaws::one_type))]
@@ -9,8 +26,8 @@ pub fn one_type()
     ensures { OneType }
 {}
 
-/// The parser of types in the definitions reads exactly the types, both ways, and refuses the first token that no type has
-/// there.
+/// The parser of types in the definitions reads exactly the types, both ways, and refuses the first token that no
+/// type has there.
 #[tactic(auto, using(crate::proofs::types::TypeLaws::type_is_read, crate::proofs::types::TypeLaws::type_reads_types, crate::proofs::types::TypeLaws::type_is_refused))]
 pub fn types_are_read()
     ensures read { TypeIsRead }
@@ -24,8 +41,8 @@ pub fn one_expression()
     ensures { OneExpression }
 {}
 
-/// The parser of expressions in the definitions reads exactly the expressions, both ways, and refuses the first token that
-/// no expression has there.
+/// The parser of expressions in the definitions reads exactly the expressions, both ways, and refuses the first token
+/// that no expression has there.
 #[tactic(auto, using(crate::proofs::statements::ExpressionLaws::expression_is_read, crate::proofs::statements::ExpressionLaws::expression_reads_expressions, crate::proofs::statements::ExpressionLaws::expression_is_refused))]
 pub fn expressions_are_read()
     ensures read { ExpressionIsRead }
@@ -39,8 +56,8 @@ pub fn one_statement()
     ensures { OneStatement }
 {}
 
-/// The parser of statements in the definitions reads exactly the statements, both ways, and refuses the first token that no
-/// statement has there.
+/// The parser of statements in the definitions reads exactly the statements, both ways, and refuses the first token
+/// that no statement has there.
 #[tactic(auto, using(crate::proofs::statements::ExpressionLaws::statement_is_read, crate::proofs::statements::ExpressionLaws::statement_reads_statements, crate::proofs::statements::ExpressionLaws::statement_is_refused))]
 pub fn statements_are_read()
     ensures read { StatementIsRead }
@@ -53,8 +70,8 @@ pub fn one_tree()
     ensures { OneTree }
 {}
 
-/// The parser of files in the definitions reads exactly the files, both ways, and refuses the first token that extends no
-/// prefix of a file's tokens.
+/// The parser of files in the definitions reads exactly the files, both ways, and refuses the first token that extends
+/// no prefix of a file's tokens.
 #[tactic(auto, using(crate::proofs::declarations::FileLaws::file_is_read, crate::proofs::declarations::FileLaws::file_reads_files, crate::proofs::declarations::FileLaws::file_is_refused))]
 pub fn files_are_read()
     ensures read { FileIsRead }

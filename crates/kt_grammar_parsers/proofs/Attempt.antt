@@ -1,11 +1,41 @@
 -- A parser that is tried. Where it reads nothing, another reads from the same place, and the language says that the first
 -- reads nothing there.
-use Rattle.std.proofs.Common.{◌≡◌, ◌≤◌, ◌<◌, List, ◌++◌, length, Ok, Err, refl, sym, ap, subst, ◌∙◌, append_assoc, arith, inl, inr, ◌⊎◌, length-append}
+use Rattle.std.proofs.Common.{
+  ◌≡◌,
+  ◌≤◌,
+  ◌<◌,
+  List,
+  ◌++◌,
+  length,
+  Ok,
+  Err,
+  refl,
+  sym,
+  ap,
+  subst,
+  ◌∙◌,
+  append_assoc,
+  arith,
+  inl,
+  inr,
+  ◌⊎◌,
+  length-append,
+}
 use Rattle.std.proofs.lemmas.Bool.{cases_lt}
 use Rattle.kt_grammar_parsers.specs.Parsers.{Cursor, Outcome, Parser, cursor, and_then, ◌>>=◌, tried, attempt}
 use Rattle.kt_grammar_parsers.specs.Phrases.{Seq, NotReads, FirstOf}
 use Rattle.kt_grammar_parsers.proofs.Ends.{Tied, Split, longer_end, tied_move, tied_as, cursor_as, far_split, far_same}
-use Rattle.kt_grammar_parsers.proofs.Correct.{Begun, Reading, Refusal, Accepted, Correct, Completion, then_ok, which, not_both}
+use Rattle.kt_grammar_parsers.proofs.Correct.{
+  Begun,
+  Reading,
+  Refusal,
+  Accepted,
+  Correct,
+  Completion,
+  then_ok,
+  which,
+  not_both,
+}
 use Rattle.kt_grammar_parsers.proofs.Bind.{tied_on, bind_correct}
 use Rattle.kt_grammar_parsers.proofs.Steps.{Any}
 

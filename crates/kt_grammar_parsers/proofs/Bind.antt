@@ -1,11 +1,44 @@
 -- One parser after the other.
-use Rattle.std.proofs.Common.{◌≡◌, ℕ, ◌≤◌, ◌<◌, List, ◌++◌, length, Ok, Err, refl, sym, ap, subst, ◌∙◌, append_assoc, arith, inl, inr, ◌⊎◌, length-append}
+use Rattle.std.proofs.Common.{
+  ◌≡◌,
+  ℕ,
+  ◌≤◌,
+  ◌<◌,
+  List,
+  ◌++◌,
+  length,
+  Ok,
+  Err,
+  refl,
+  sym,
+  ap,
+  subst,
+  ◌∙◌,
+  append_assoc,
+  arith,
+  inl,
+  inr,
+  ◌⊎◌,
+  length-append,
+}
 use Rattle.std.proofs.lemmas.List.{append_cancel_right}
 use Rattle.std.proofs.lemmas.Bool.{cases_lt}
 use Rattle.kt_grammar_parsers.specs.Parsers.{Cursor, Outcome, Parser, cursor, and_then, ◌>>=◌}
 use Rattle.kt_grammar_parsers.specs.Phrases.{Seq}
 use Rattle.kt_grammar_parsers.proofs.Ends.{Tied, Split, longer_end, tied_move, tied_as, cursor_as, far_split, far_same}
-use Rattle.kt_grammar_parsers.proofs.Correct.{Begun, Reading, Refusal, Accepted, Below, Correct, Completion, below, correct, then_ok, then_err}
+use Rattle.kt_grammar_parsers.proofs.Correct.{
+  Begun,
+  Reading,
+  Refusal,
+  Accepted,
+  Below,
+  Correct,
+  Completion,
+  below,
+  correct,
+  then_ok,
+  then_err,
+}
 
 pub tied_on : {T A : Type 0} (L : A → List T → List T → Type 0) (N : A → List T → Type 0) (c : Cursor T) (a : A) (c' : Cursor T) → Tied c → Reading L N c a c' → Tied c'
 tied_on {T} L N c a c' t x = elim x.far [

@@ -1,12 +1,105 @@
 -- The forms that productions are made of: lists and chains.
-use Rattle.std.proofs.Common.{◌≡◌, ℕ, ◌<◌, Bool, true, false, not, if◌then◌else◌, List, [], ◌∷◌, ◌++◌, length, Ok, Err, refl, sym, ap, subst, ◌∙◌, append_assoc, arith, inl, inr, ◌⊎◌, length-append}
+use Rattle.std.proofs.Common.{
+  ◌≡◌,
+  ℕ,
+  ◌<◌,
+  Bool,
+  true,
+  false,
+  not,
+  if◌then◌else◌,
+  List,
+  [],
+  ◌∷◌,
+  ◌++◌,
+  length,
+  Ok,
+  Err,
+  refl,
+  sym,
+  ap,
+  subst,
+  ◌∙◌,
+  append_assoc,
+  arith,
+  inl,
+  inr,
+  ◌⊎◌,
+  length-append,
+}
 use Rattle.std.proofs.lemmas.List.{append-nil, append_cancel_right}
-use Rattle.kt_grammar_parsers.specs.Parsers.{Cursor, Parser, cursor, further, first, ◌>>=◌, ◌>>◌, pure, token, skip, attempt, attempt_if, repeat, ahead, comma_turn, comma_list, maybe_comma_list, more_turn, several, gap, item_turn, items, chain_turn, chain}
-use Rattle.kt_grammar_parsers.specs.Phrases.{IsNothing, IsToken, IsSkipped, IsAhead, Seq, NotReads, FirstOf, If, WhereRoom, Loop, ends, CommaTurn, CommaList, MaybeCommaList, MoreTurn, Several, IsGap, ItemTurn, Items, ChainTurn, Chain}
+use Rattle.kt_grammar_parsers.specs.Parsers.{
+  Cursor,
+  Parser,
+  cursor,
+  further,
+  first,
+  ◌>>=◌,
+  ◌>>◌,
+  pure,
+  token,
+  skip,
+  attempt,
+  attempt_if,
+  repeat,
+  ahead,
+  comma_turn,
+  comma_list,
+  maybe_comma_list,
+  more_turn,
+  several,
+  gap,
+  item_turn,
+  items,
+  chain_turn,
+  chain,
+}
+use Rattle.kt_grammar_parsers.specs.Phrases.{
+  IsNothing,
+  IsToken,
+  IsSkipped,
+  IsAhead,
+  Seq,
+  NotReads,
+  FirstOf,
+  If,
+  WhereRoom,
+  Loop,
+  ends,
+  CommaTurn,
+  CommaList,
+  MaybeCommaList,
+  MoreTurn,
+  Several,
+  IsGap,
+  ItemTurn,
+  Items,
+  ChainTurn,
+  Chain,
+}
 use Rattle.kt_grammar_parsers.proofs.Ends.{further_short}
-use Rattle.kt_grammar_parsers.proofs.Correct.{Begun, Refusal, Accepted, Below, Correct, Completion, below, correct, same_language}
+use Rattle.kt_grammar_parsers.proofs.Correct.{
+  Begun,
+  Refusal,
+  Accepted,
+  Below,
+  Correct,
+  Completion,
+  below,
+  correct,
+  same_language,
+}
 use Rattle.kt_grammar_parsers.proofs.Bind.{bind_correct}
-use Rattle.kt_grammar_parsers.proofs.Steps.{Any, truth, if_ok, if_err, refused_at, mark_moves, pure_correct, token_correct}
+use Rattle.kt_grammar_parsers.proofs.Steps.{
+  Any,
+  truth,
+  if_ok,
+  if_err,
+  refused_at,
+  mark_moves,
+  pure_correct,
+  token_correct,
+}
 use Rattle.kt_grammar_parsers.proofs.Skip.{skip_correct}
 use Rattle.kt_grammar_parsers.proofs.On.{Phrase, on_correct, first_same}
 use Rattle.kt_grammar_parsers.proofs.Attempt.{attempt_correct}

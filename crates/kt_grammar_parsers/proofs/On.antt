@@ -1,5 +1,28 @@
 -- A choice by the next token, which it takes, or examines in vain.
-use Rattle.std.proofs.Common.{◌≡◌, ◌<◌, Bool, true, false, List, [], ◌∷◌, ◌++◌, length, Ok, Err, refl, sym, ap, subst, ◌∙◌, arith, inl, inr, ◌⊎◌, length-append}
+use Rattle.std.proofs.Common.{
+  ◌≡◌,
+  ◌<◌,
+  Bool,
+  true,
+  false,
+  List,
+  [],
+  ◌∷◌,
+  ◌++◌,
+  length,
+  Ok,
+  Err,
+  refl,
+  sym,
+  ap,
+  subst,
+  ◌∙◌,
+  arith,
+  inl,
+  inr,
+  ◌⊎◌,
+  length-append,
+}
 use Rattle.kt_grammar_parsers.specs.Parsers.{Cursor, Parser, cursor, further, first, ◌>>=◌, token, on}
 use Rattle.kt_grammar_parsers.specs.Phrases.{IsToken, Seq, Either}
 use Rattle.kt_grammar_parsers.proofs.Ends.{Tied, picks, further_cases, further_short, tied_mark}

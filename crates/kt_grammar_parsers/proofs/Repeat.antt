@@ -1,5 +1,28 @@
 -- Turns until one ends it.
-use Rattle.std.proofs.Common.{◌≡◌, ℕ, zero, suc, ◌≤◌, ◌<◌, List, [], ◌++◌, length, Ok, Err, refl, sym, ap, subst, ◌∙◌, arith, inl, inr, ◌⊎◌, length-append}
+use Rattle.std.proofs.Common.{
+  ◌≡◌,
+  ℕ,
+  zero,
+  suc,
+  ◌≤◌,
+  ◌<◌,
+  List,
+  [],
+  ◌++◌,
+  length,
+  Ok,
+  Err,
+  refl,
+  sym,
+  ap,
+  subst,
+  ◌∙◌,
+  arith,
+  inl,
+  inr,
+  ◌⊎◌,
+  length-append,
+}
 use Rattle.std.proofs.lemmas.List.{append-nil}
 use Rattle.kt_grammar_parsers.specs.Parsers.{Cursor, Outcome, Parser, and_then, ◌>>=◌, pure, again, loop, repeat}
 use Rattle.kt_grammar_parsers.specs.Phrases.{IsNothing, Seq, Loop, ends, turns}

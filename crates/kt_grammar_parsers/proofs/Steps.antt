@@ -1,5 +1,30 @@
 -- The steps that read tokens one by one.
-use Rattle.std.proofs.Common.{◌≡◌, ◌≤◌, ◌<◌, Bool, true, false, cond, List, [], ◌∷◌, ◌++◌, length, Ok, Err, refl, sym, ap, subst, ◌∙◌, arith, inl, inr, ◌⊎◌, length-append}
+use Rattle.std.proofs.Common.{
+  ◌≡◌,
+  ◌≤◌,
+  ◌<◌,
+  Bool,
+  true,
+  false,
+  cond,
+  List,
+  [],
+  ◌∷◌,
+  ◌++◌,
+  length,
+  Ok,
+  Err,
+  refl,
+  sym,
+  ap,
+  subst,
+  ◌∙◌,
+  arith,
+  inl,
+  inr,
+  ◌⊎◌,
+  length-append,
+}
 use Rattle.std.proofs.lemmas.List.{append_cancel_right}
 use Rattle.kt_grammar_parsers.specs.Parsers.{Cursor, cursor, further, pure, token}
 use Rattle.kt_grammar_parsers.specs.Phrases.{IsNothing, IsToken}

@@ -1,6 +1,31 @@
 -- What a correct parser reads to the end is the one sentence, and what it refuses is the first token that no sentence has
 -- there.
-use Rattle.std.proofs.Common.{◌≡◌, ℕ, ◌+◌, ◌-◌, ◌≤◌, ◌<◌, List, [], ◌∷◌, ◌++◌, length, take, Ok, Err, refl, sym, ap, subst, ◌∙◌, append_assoc, arith, inl, inr, length-append}
+use Rattle.std.proofs.Common.{
+  ◌≡◌,
+  ℕ,
+  ◌+◌,
+  ◌-◌,
+  ◌≤◌,
+  ◌<◌,
+  List,
+  [],
+  ◌∷◌,
+  ◌++◌,
+  length,
+  take,
+  Ok,
+  Err,
+  refl,
+  sym,
+  ap,
+  subst,
+  ◌∙◌,
+  append_assoc,
+  arith,
+  inl,
+  inr,
+  length-append,
+}
 use Rattle.std.proofs.lemmas.List.{append-nil, take_at}
 use Rattle.kt_grammar_parsers.specs.Parsers.{Cursor, Outcome, Parser, cursor}
 use Rattle.kt_grammar_parsers.specs.Sentences.{IsSentence, IsPrefix, IsRefusedAt, OneValue}

@@ -1,6 +1,24 @@
 -- Parsers over lists of tokens of any type, made of a few steps. A parser gives a value and the tokens behind it, or
 -- refuses. It keeps the furthest token that it examined and could not take: what is refused, is refused there.
-use Rattle.std.specs.Prelude.{ℕ, zero, suc, Bool, true, false, if◌then◌else◌, nat_le, List, [], ◌∷◌, ◌++◌, length, Result, Ok, Err, ◌⊎◌}
+use Rattle.std.specs.Prelude.{
+  ℕ,
+  zero,
+  suc,
+  Bool,
+  true,
+  false,
+  if◌then◌else◌,
+  nat_le,
+  List,
+  [],
+  ◌∷◌,
+  ◌++◌,
+  length,
+  Result,
+  Ok,
+  Err,
+  ◌⊎◌,
+}
 use Rattle.std.proofs.Common.{inl, inr}
 
 pub record Cursor (T : Type 0) : Type 0 where

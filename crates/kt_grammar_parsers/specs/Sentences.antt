@@ -9,8 +9,8 @@ IsSentence L ts a = L a ts []
 abbrev pub IsPrefix : {T A : Type 0} → (A → List T → List T → Type 0) → List T → Type 0
 IsPrefix {T} {A} L ts = (more : List T) × (a : A) × IsSentence L (ts ++ more) a
 
--- The token at this index is the first that extends no prefix of a sentence; the index after the last stands for the end,
--- which ends no sentence then.
+-- The token at this index is the first that extends no prefix of a sentence; the index after the last stands for the
+-- end, which ends no sentence then.
 pub record IsRefusedAt {T A : Type 0} (L : A → List T → List T → Type 0) (ts : List T) (at : ℕ) : Type 0 where
   pub within : at ≤ length ts
   pub prefix : IsPrefix L (take at ts)

@@ -1,5 +1,31 @@
 -- What the shape at the front of a text is: a lexeme, whose characters stand before what is left.
-use Rattle.std.proofs.Common.{◌≡◌, ℕ, ◌-◌, ◌<◌, Bool, true, false, cond, ◌||◌, ◌&&◌, List, [], ◌∷◌, ◌++◌, Option, None, Some, length, take, refl, sym, ap, subst, ◌∙◌, arith}
+use Rattle.std.proofs.Common.{
+  ◌≡◌,
+  ℕ,
+  ◌-◌,
+  ◌<◌,
+  Bool,
+  true,
+  false,
+  cond,
+  ◌||◌,
+  ◌&&◌,
+  List,
+  [],
+  ◌∷◌,
+  ◌++◌,
+  Option,
+  None,
+  Some,
+  length,
+  take,
+  refl,
+  sym,
+  ap,
+  subst,
+  ◌∙◌,
+  arith,
+}
 use Rattle.std.specs.Prelude.{◌==◌, find}
 use Rattle.std.specs.Cmp.Lexicographic.{pointwise, same_text}
 use Rattle.std.proofs.lemmas.Bool.{eqb-true}
@@ -13,7 +39,18 @@ use Rattle.kt_lexer.specs.declared.shapes.Shape.{Shape}
 use Rattle.kt_lexer.specs.Lexemes as lexemes
 use Rattle.kt_lexer.specs.Lexemes.{first, AllPass}
 use Rattle.kt_lexer.specs.Texts.{IsLexeme, of_kind, ordinary}
-use Rattle.kt_lexer.specs.Scanning.{Found, behind, passed, lexeme_of, keywords, keyword_of, word_shape, behind_safe_as, safe_as_or, word_at}
+use Rattle.kt_lexer.specs.Scanning.{
+  Found,
+  behind,
+  passed,
+  lexeme_of,
+  keywords,
+  keyword_of,
+  word_shape,
+  behind_safe_as,
+  safe_as_or,
+  word_at,
+}
 use Rattle.kt_lexer.proofs.Cases.{both}
 
 -- the shape is that of a lexeme at the front of the text, with at least one character

@@ -1,9 +1,49 @@
 -- A comment that is found is one: the counter of open comments finds what the nesting says.
-use Rattle.std.proofs.Common.{◌≡◌, ℕ, zero, suc, ◌+◌, ◌-◌, ◌<◌, Bool, true, false, cond, ◌&&◌, List, [], ◌∷◌, ◌++◌, Some, length, refl, sym, ap, subst, ◌∙◌, ⊎_elim, arith}
+use Rattle.std.proofs.Common.{
+  ◌≡◌,
+  ℕ,
+  zero,
+  suc,
+  ◌+◌,
+  ◌-◌,
+  ◌<◌,
+  Bool,
+  true,
+  false,
+  cond,
+  ◌&&◌,
+  List,
+  [],
+  ◌∷◌,
+  ◌++◌,
+  Some,
+  length,
+  refl,
+  sym,
+  ap,
+  subst,
+  ◌∙◌,
+  ⊎_elim,
+  arith,
+}
 use Rattle.std.specs.Prelude.{◌==◌}
 use Rattle.std.proofs.lemmas.Bool.{eqb-true, ne_eqb}
 use Rattle.std.proofs.lemmas.List.{append_assoc}
-use Rattle.kt_lexer.specs.Lexemes.{first, begins, IsCommentRest, closed, nested, more, AtLineEnd, at_end, at_line_feed, at_both, IsToLineEnd, here, there}
+use Rattle.kt_lexer.specs.Lexemes.{
+  first,
+  begins,
+  IsCommentRest,
+  closed,
+  nested,
+  more,
+  AtLineEnd,
+  at_end,
+  at_line_feed,
+  at_both,
+  IsToLineEnd,
+  here,
+  there,
+}
 use Rattle.kt_lexer.specs.Scanning.{at_line_end, line_rest, opens_comment, closes_comment, comment_rest}
 use Rattle.kt_lexer.proofs.Cases.{either, both}
 

@@ -1,5 +1,29 @@
 -- What is found at the front of a text, within a string or not, is a lexeme.
-use Rattle.std.proofs.Common.{◌≡◌, ℕ, Bool, true, false, ◌||◌, ◌&&◌, not, List, [], ◌∷◌, ◌++◌, Option, None, Some, rules, refl, sym, ap, subst, ◌∙◌, ⊎_elim, arith}
+use Rattle.std.proofs.Common.{
+  ◌≡◌,
+  ℕ,
+  Bool,
+  true,
+  false,
+  ◌||◌,
+  ◌&&◌,
+  not,
+  List,
+  [],
+  ◌∷◌,
+  ◌++◌,
+  Option,
+  None,
+  Some,
+  rules,
+  refl,
+  sym,
+  ap,
+  subst,
+  ◌∙◌,
+  ⊎_elim,
+  arith,
+}
 use Rattle.std.specs.Prelude.{◌==◌}
 use Rattle.std.proofs.lemmas.Bool.{eqb-true}
 use denote.Enum.Bare.{same_true}
@@ -11,9 +35,33 @@ use Rattle.kt_lexer.specs.declared.shapes.Shape.TheVariants as shape
 use Rattle.kt_lexer.specs.Lexemes as lexemes
 use Rattle.kt_lexer.specs.Lexemes.{first, AllPass, is_letter, is_digit, is_word, is_run}
 use Rattle.kt_lexer.specs.Texts.{ordinary, between_tokens, inside}
-use Rattle.kt_lexer.specs.Scanning.{Found, behind, keyword_of, line_feed_at, ordinary_at, part_before, dollar_at, string_escape, escape_at, string_part_at, shape_at, slash_at, exclamation_at, character_at}
+use Rattle.kt_lexer.specs.Scanning.{
+  Found,
+  behind,
+  keyword_of,
+  line_feed_at,
+  ordinary_at,
+  part_before,
+  dollar_at,
+  string_escape,
+  escape_at,
+  string_part_at,
+  shape_at,
+  slash_at,
+  exclamation_at,
+  character_at,
+}
 use Rattle.kt_lexer.proofs.Cases.{at, either}
-use Rattle.kt_lexer.proofs.Found.{IsFront, IsFound, run_of, passed_is, keyword_written, no_keyword, word_split, word_found}
+use Rattle.kt_lexer.proofs.Found.{
+  IsFront,
+  IsFound,
+  run_of,
+  passed_is,
+  keyword_written,
+  no_keyword,
+  word_split,
+  word_found,
+}
 use Rattle.kt_lexer.proofs.FoundNumbers.{number_found}
 use Rattle.kt_lexer.proofs.FoundLiterals.{IsEscapeFound, escape_found, character_found}
 use Rattle.kt_lexer.proofs.FoundSigns.{sign_found, slash_found, exclamation_found}

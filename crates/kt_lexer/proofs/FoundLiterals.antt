@@ -1,5 +1,24 @@
 -- A character literal and an escape that are found at the front of a text are such.
-use Rattle.std.proofs.Common.{◌≡◌, ℕ, true, false, ◌&&◌, List, [], ◌∷◌, ◌++◌, Option, None, Some, refl, sym, ap, subst, ◌∙◌, arith}
+use Rattle.std.proofs.Common.{
+  ◌≡◌,
+  ℕ,
+  true,
+  false,
+  ◌&&◌,
+  List,
+  [],
+  ◌∷◌,
+  ◌++◌,
+  Option,
+  None,
+  Some,
+  refl,
+  sym,
+  ap,
+  subst,
+  ◌∙◌,
+  arith,
+}
 use Rattle.std.specs.Prelude.{◌==◌}
 use Rattle.std.proofs.lemmas.Bool.{eqb-true}
 use Rattle.std.proofs.lemmas.List.{append_assoc}
@@ -7,7 +26,15 @@ use Rattle.kt_tree.specs.declared.tokens.TokenKind.TheVariants as kind
 use Rattle.kt_lexer.specs.Lexemes as lexemes
 use Rattle.kt_lexer.specs.Lexemes.{IsSimpleEscape, IsEscape, simple, by_digits, IsOrdinary}
 use Rattle.kt_lexer.specs.Texts.{ordinary}
-use Rattle.kt_lexer.specs.Scanning.{simple_escape, four_digits, simple_or, escape_at, closed_character, escaped_character, character_at}
+use Rattle.kt_lexer.specs.Scanning.{
+  simple_escape,
+  four_digits,
+  simple_or,
+  escape_at,
+  closed_character,
+  escaped_character,
+  character_at,
+}
 use Rattle.kt_lexer.proofs.Cases.{at, both}
 use Rattle.kt_lexer.proofs.Found.{IsFound}
 

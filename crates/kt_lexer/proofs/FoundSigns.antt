@@ -1,5 +1,30 @@
 -- A sign that is found at the front of a text is one.
-use Rattle.std.proofs.Common.{◌≡◌, ℕ, ◌<◌, Bool, true, false, cond, ◌&&◌, not, List, [], ◌∷◌, ◌++◌, Option, None, Some, length, drop, refl, sym, ap, subst, ◌∙◌, arith}
+use Rattle.std.proofs.Common.{
+  ◌≡◌,
+  ℕ,
+  ◌<◌,
+  Bool,
+  true,
+  false,
+  cond,
+  ◌&&◌,
+  not,
+  List,
+  [],
+  ◌∷◌,
+  ◌++◌,
+  Option,
+  None,
+  Some,
+  length,
+  drop,
+  refl,
+  sym,
+  ap,
+  subst,
+  ◌∙◌,
+  arith,
+}
 use Rattle.std.specs.Prelude.{◌==◌}
 use Rattle.std.specs.Option.{option_map}
 use Rattle.std.proofs.lemmas.Bool.{eqb-true}
@@ -10,7 +35,19 @@ use Rattle.kt_lexer.specs.declared.shapes.Shape.TheVariants as shape
 use Rattle.kt_lexer.specs.Lexemes as lexemes
 use Rattle.kt_lexer.specs.Lexemes.{first, sign_text, may_follow, is_word}
 use Rattle.kt_lexer.specs.Texts.{IsLexeme, of_kind, ordinary, between_tokens}
-use Rattle.kt_lexer.specs.Scanning.{double_sign, single_sign, single_at, double_or, sign_at, slash_at, behind_is, exclamation_at, comment_rest, blank_before, Found}
+use Rattle.kt_lexer.specs.Scanning.{
+  double_sign,
+  single_sign,
+  single_at,
+  double_or,
+  sign_at,
+  slash_at,
+  behind_is,
+  exclamation_at,
+  comment_rest,
+  blank_before,
+  Found,
+}
 use Rattle.kt_lexer.proofs.Cases.{at, both}
 use Rattle.kt_lexer.proofs.Found.{IsFront, IsFound}
 use Rattle.kt_lexer.proofs.FoundComments.{line_split, comment_found}

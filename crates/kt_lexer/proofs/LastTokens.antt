@@ -5,8 +5,39 @@ use Rattle.kt_tree.specs.declared.tokens.Token.{Token}
 use Rattle.kt_tree.specs.declared.tokens.TokenKind.{TokenKind}
 use Rattle.kt_tree.specs.Tokens.{is_end, kind_is_end, ends_alone}
 use Rattle.kt_lexer.specs.declared.brackets.Open.{Open}
-use Rattle.kt_lexer.specs.Lexemes.{IsOrdinary, identifier, keyword, number, long_number, character, escaped_character, mark, open_quote, line_feed_alone, both_line_ends, IsInString, run, escape, name_part, this_part, open_template, dollar_alone, close_quote}
-use Rattle.kt_lexer.specs.Texts.{AreTokens, at_end, token, dropped, skipped, IsLexeme, ordinary, between_tokens, inside, of_kind}
+use Rattle.kt_lexer.specs.Lexemes.{
+  IsOrdinary,
+  identifier,
+  keyword,
+  number,
+  long_number,
+  character,
+  escaped_character,
+  mark,
+  open_quote,
+  line_feed_alone,
+  both_line_ends,
+  IsInString,
+  run,
+  escape,
+  name_part,
+  this_part,
+  open_template,
+  dollar_alone,
+  close_quote,
+}
+use Rattle.kt_lexer.specs.Texts.{
+  AreTokens,
+  at_end,
+  token,
+  dropped,
+  skipped,
+  IsLexeme,
+  ordinary,
+  between_tokens,
+  inside,
+  of_kind,
+}
 
 ordinary_is_no_end : (u rest : List ℕ) (k : TokenKind) → IsOrdinary u rest k → kind_is_end k ≡ false
 ordinary_is_no_end u rest k (identifier h) = refl

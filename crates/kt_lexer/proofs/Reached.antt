@@ -1,5 +1,31 @@
 -- Where the front of a text spells a lexeme, a shape is found: that of the lexeme, or one that goes further.
-use Rattle.std.proofs.Common.{◌≡◌, ℕ, ◌<◌, ◌≤◌, Bool, true, false, cond, ◌⊎◌, inl, inr, List, [], ◌∷◌, ◌++◌, Option, None, Some, length, refl, sym, ap, subst, ◌∙◌, arith}
+use Rattle.std.proofs.Common.{
+  ◌≡◌,
+  ℕ,
+  ◌<◌,
+  ◌≤◌,
+  Bool,
+  true,
+  false,
+  cond,
+  ◌⊎◌,
+  inl,
+  inr,
+  List,
+  [],
+  ◌∷◌,
+  ◌++◌,
+  Option,
+  None,
+  Some,
+  length,
+  refl,
+  sym,
+  ap,
+  subst,
+  ◌∙◌,
+  arith,
+}
 use Rattle.std.specs.Prelude.{◌==◌}
 use Rattle.std.proofs.lemmas.Bool.{ne_eqb, lt-leb, leb-true}
 use Rattle.std.proofs.lemmas.List.{append_assoc}
@@ -9,7 +35,21 @@ use Rattle.kt_lexer.specs.declared.shapes.Shape.{Shape}
 use Rattle.kt_lexer.specs.Lexemes as lexemes
 use Rattle.kt_lexer.specs.Lexemes.{first, AllPass, is_letter, is_digit, is_word, between, IsWord, IsNameText, IsDigits}
 use Rattle.kt_lexer.specs.Texts.{Lexeme, of_kind}
-use Rattle.kt_lexer.specs.Scanning.{Found, behind, passed, lexeme_of, keyword_of, word_shape, behind_safe_as, safe_as_or, word_at, behind_number, numbered, number_at, ordinary_at}
+use Rattle.kt_lexer.specs.Scanning.{
+  Found,
+  behind,
+  passed,
+  lexeme_of,
+  keyword_of,
+  word_shape,
+  behind_safe_as,
+  safe_as_or,
+  word_at,
+  behind_number,
+  numbered,
+  number_at,
+  ordinary_at,
+}
 use Rattle.kt_lexer.proofs.Cases.{at, both}
 use Rattle.kt_lexer.proofs.Found.{passed_is, keyword_written, keyword_known, safe_as_is}
 

@@ -1,5 +1,28 @@
 -- Where the front of a text spells a lexeme, a shape is found: that of the lexeme, or one that goes further.
-use Rattle.std.proofs.Common.{◌≡◌, ℕ, ◌<◌, Bool, true, cond, inl, inr, List, [], ◌∷◌, ◌++◌, Option, None, Some, length, refl, sym, ap, subst, ◌∙◌, arith}
+use Rattle.std.proofs.Common.{
+  ◌≡◌,
+  ℕ,
+  ◌<◌,
+  Bool,
+  true,
+  cond,
+  inl,
+  inr,
+  List,
+  [],
+  ◌∷◌,
+  ◌++◌,
+  Option,
+  None,
+  Some,
+  length,
+  refl,
+  sym,
+  ap,
+  subst,
+  ◌∙◌,
+  arith,
+}
 use Rattle.std.specs.Prelude.{◌==◌}
 use Rattle.kt_base.specs.Text.{utf16_of}
 use Rattle.kt_tree.specs.declared.tokens.Keyword.{Keyword}
@@ -10,13 +33,54 @@ use Rattle.kt_tree.specs.Tokens.{same_keyword}
 use Rattle.kt_lexer.specs.declared.shapes.Shape.{Shape}
 use Rattle.kt_lexer.specs.declared.shapes.Shape.TheVariants as shape
 use Rattle.kt_lexer.specs.Lexemes as lexemes
-use Rattle.kt_lexer.specs.Lexemes.{first, AllPass, is_letter, is_word, is_run, IsOrdinary, IsInString, IsBlank, IsWord, IsNameText, IsEscape}
+use Rattle.kt_lexer.specs.Lexemes.{
+  first,
+  AllPass,
+  is_letter,
+  is_word,
+  is_run,
+  IsOrdinary,
+  IsInString,
+  IsBlank,
+  IsWord,
+  IsNameText,
+  IsEscape,
+}
 use Rattle.kt_lexer.specs.Texts.{Lexeme, of_kind, blank, IsLexeme, ordinary, between_tokens, inside}
-use Rattle.kt_lexer.specs.Scanning.{behind, passed, keyword_of, part_before, part_at, dollar_at, string_escape, string_part_at, ordinary_at, shape_at}
+use Rattle.kt_lexer.specs.Scanning.{
+  behind,
+  passed,
+  keyword_of,
+  part_before,
+  part_at,
+  dollar_at,
+  string_escape,
+  string_part_at,
+  ordinary_at,
+  shape_at,
+}
 use Rattle.kt_lexer.proofs.Cases.{at}
 use Rattle.kt_lexer.proofs.Found.{passed_is, keyword_known, letter_word}
-use Rattle.kt_lexer.proofs.Reached.{Reaches, behind_all, behind_none, behind_some, behind_or, name_is_none, name_reached, keyword_reached, number_reached, long_reached}
-use Rattle.kt_lexer.proofs.ReachedParts.{escape_reached, plain_reached, escaped_reached, comment_reached, line_comment_reached, sign_reached}
+use Rattle.kt_lexer.proofs.Reached.{
+  Reaches,
+  behind_all,
+  behind_none,
+  behind_some,
+  behind_or,
+  name_is_none,
+  name_reached,
+  keyword_reached,
+  number_reached,
+  long_reached,
+}
+use Rattle.kt_lexer.proofs.ReachedParts.{
+  escape_reached,
+  plain_reached,
+  escaped_reached,
+  comment_reached,
+  line_comment_reached,
+  sign_reached,
+}
 
 ordinary_reached : {u rest : List ℕ} {k : TokenKind} → IsOrdinary u rest k → Reaches u rest (of_kind k) (ordinary_at (u ++ rest))
 unfolding ordinary_at

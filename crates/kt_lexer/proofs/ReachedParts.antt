@@ -1,5 +1,37 @@
 -- Literals, comments and signs at the front of a text are found, or something longer is.
-use Rattle.std.proofs.Common.{◌≡◌, ℕ, zero, suc, ◌+◌, ◌-◌, ◌<◌, ◌≤◌, Bool, true, false, cond, ◌&&◌, not, inl, inr, List, [], ◌∷◌, ◌++◌, Option, None, Some, length, drop, refl, sym, ap, subst, ◌∙◌, arith}
+use Rattle.std.proofs.Common.{
+  ◌≡◌,
+  ℕ,
+  zero,
+  suc,
+  ◌+◌,
+  ◌-◌,
+  ◌<◌,
+  ◌≤◌,
+  Bool,
+  true,
+  false,
+  cond,
+  ◌&&◌,
+  not,
+  inl,
+  inr,
+  List,
+  [],
+  ◌∷◌,
+  ◌++◌,
+  Option,
+  None,
+  Some,
+  length,
+  drop,
+  refl,
+  sym,
+  ap,
+  subst,
+  ◌∙◌,
+  arith,
+}
 use Rattle.std.specs.Prelude.{◌==◌}
 use Rattle.std.specs.Option.{option_map}
 use Rattle.std.proofs.lemmas.Bool.{ne_eqb}
@@ -9,9 +41,52 @@ use Rattle.kt_tree.specs.declared.tokens.Sign.TheVariants as sign
 use Rattle.kt_tree.specs.declared.tokens.TokenKind.TheVariants as kind
 use Rattle.kt_lexer.specs.declared.shapes.Shape.TheVariants as shape
 use Rattle.kt_lexer.specs.Lexemes as lexemes
-use Rattle.kt_lexer.specs.Lexemes.{first, begins, AllPass, is_plain, is_hexadecimal, is_word, IsSimpleEscape, IsEscape, simple, by_digits, IsCommentRest, closed, nested, more, AtLineEnd, IsToLineEnd, here, there, sign_text, may_follow}
+use Rattle.kt_lexer.specs.Lexemes.{
+  first,
+  begins,
+  AllPass,
+  is_plain,
+  is_hexadecimal,
+  is_word,
+  IsSimpleEscape,
+  IsEscape,
+  simple,
+  by_digits,
+  IsCommentRest,
+  closed,
+  nested,
+  more,
+  AtLineEnd,
+  IsToLineEnd,
+  here,
+  there,
+  sign_text,
+  may_follow,
+}
 use Rattle.kt_lexer.specs.Texts.{of_kind, blank}
-use Rattle.kt_lexer.specs.Scanning.{Found, simple_escape, four_digits, escape_at, escaped_character, character_at, at_line_end, line_rest, opens_comment, closes_comment, comment_rest, blank_before, double_sign, single_sign, double_or, sign_at, slash_at, behind_is, exclamation_at, word_at, ordinary_at}
+use Rattle.kt_lexer.specs.Scanning.{
+  Found,
+  simple_escape,
+  four_digits,
+  escape_at,
+  escaped_character,
+  character_at,
+  at_line_end,
+  line_rest,
+  opens_comment,
+  closes_comment,
+  comment_rest,
+  blank_before,
+  double_sign,
+  single_sign,
+  double_or,
+  sign_at,
+  slash_at,
+  behind_is,
+  exclamation_at,
+  word_at,
+  ordinary_at,
+}
 use Rattle.kt_lexer.proofs.Cases.{at}
 use Rattle.kt_lexer.proofs.FoundComments.{line_end_is, line_end_test, comment_nonempty}
 use Rattle.kt_lexer.proofs.Reached.{Reaches}

@@ -8,7 +8,17 @@ use Rattle.kt_base.specs.declared.refusals.FrontErr.{FrontErr}
 use Rattle.kt_base.specs.declared.refusals.FrontErr.TheVariants as front_err
 use Rattle.kt_tree.specs.declared.tokens.Token.{Token}
 use Rattle.kt_lexer.specs.Texts.{AreTokensOf, IsLexRefusedAt, place_behind, text_start}
-use Rattle.kt_lexer.specs.Sources.{valid_front, lex_refusal, IsBrokenOff, within, at_its_end, IsSourceRefused, too_long, no_token, no_text}
+use Rattle.kt_lexer.specs.Sources.{
+  valid_front,
+  lex_refusal,
+  IsBrokenOff,
+  within,
+  at_its_end,
+  IsSourceRefused,
+  too_long,
+  no_token,
+  no_text,
+}
 
 refusal_is : (r : Refusal) → r.kind ≡ stage.Lex → lex_refusal r.pos ≡ r
 refusal_is r is = λ i. record { kind = sym is i; pos = r.pos }

@@ -1,5 +1,31 @@
 -- Where the lexer stands in a text: what is still to come decides what the text has.
-use Rattle.std.proofs.Common.{◌≡◌, ℕ, ◌+◌, not, ◌<◌, Bool, true, false, inl, inr, List, [], ◌∷◌, ◌++◌, None, Some, Result, Err, length, refl, sym, ap, subst, ◌∙◌, arith}
+use Rattle.std.proofs.Common.{
+  ◌≡◌,
+  ℕ,
+  ◌+◌,
+  not,
+  ◌<◌,
+  Bool,
+  true,
+  false,
+  inl,
+  inr,
+  List,
+  [],
+  ◌∷◌,
+  ◌++◌,
+  None,
+  Some,
+  Result,
+  Err,
+  length,
+  refl,
+  sym,
+  ap,
+  subst,
+  ◌∙◌,
+  arith,
+}
 use Rattle.std.proofs.lemmas.List.{append_assoc, length-append}
 use Rattle.kt_base.specs.declared.refusals.Pos.{Pos}
 use Rattle.kt_base.specs.declared.refusals.Refusal.{Refusal}
@@ -11,10 +37,38 @@ use Rattle.kt_lexer.specs.declared.brackets.Open.{Open}
 use Rattle.kt_lexer.specs.declared.shapes.Shape.{Shape}
 use Rattle.kt_tree.specs.declared.tokens.TokenKind.{TokenKind}
 use Rattle.kt_lexer.specs.Lexemes as lexemes
-use Rattle.kt_lexer.specs.Texts.{Lexeme, of_kind, IsLexeme, ordinary, between_tokens, inside, in_string, place_behind, AreTokens, at_end, NoneBegins, BreaksAt, here, AreTokensOf, IsLexRefusedAt}
+use Rattle.kt_lexer.specs.Texts.{
+  Lexeme,
+  of_kind,
+  IsLexeme,
+  ordinary,
+  between_tokens,
+  inside,
+  in_string,
+  place_behind,
+  AreTokens,
+  at_end,
+  NoneBegins,
+  BreaksAt,
+  here,
+  AreTokensOf,
+  IsLexRefusedAt,
+}
 use Rattle.kt_lexer.specs.Scanning.{passed, lexeme_of, shape_at, seen, after_lexeme, has_ended, NamesAreWords}
 use Rattle.kt_lexer.proofs.Cases.{not_true}
-use Rattle.kt_lexer.proofs.Whole.{found_longest, none_there, with_lexeme, behind_lexeme, break_with, break_behind, end_of, ended_tokens, no_tokens, break_here, no_break}
+use Rattle.kt_lexer.proofs.Whole.{
+  found_longest,
+  none_there,
+  with_lexeme,
+  behind_lexeme,
+  break_with,
+  break_behind,
+  end_of,
+  ended_tokens,
+  no_tokens,
+  break_here,
+  no_break,
+}
 
 -- the text has the tokens that were read and those that the rest has, and breaks where the rest does
 pub record Stands (text : List ℕ) (opens : List Open) (at : Pos) (rest : List ℕ) (tokens : List Token) : Type 0 where

@@ -1,5 +1,32 @@
 -- The tokens of a text, lexeme by lexeme.
-use Rattle.std.proofs.Common.{◌≡◌, ℕ, zero, suc, ◌<◌, ◌≤◌, Bool, true, false, cond, ◌⊎◌, inl, inr, List, [], ◌∷◌, ◌++◌, None, Some, length, refl, sym, ap, subst, ◌∙◌, arith}
+use Rattle.std.proofs.Common.{
+  ◌≡◌,
+  ℕ,
+  zero,
+  suc,
+  ◌<◌,
+  ◌≤◌,
+  Bool,
+  true,
+  false,
+  cond,
+  ◌⊎◌,
+  inl,
+  inr,
+  List,
+  [],
+  ◌∷◌,
+  ◌++◌,
+  None,
+  Some,
+  length,
+  refl,
+  sym,
+  ap,
+  subst,
+  ◌∙◌,
+  arith,
+}
 use Rattle.std.proofs.lemmas.List.{length-append}
 use Rattle.kt_base.specs.declared.refusals.Pos.{Pos}
 use Rattle.kt_tree.specs.declared.tokens.Token.{Token}
@@ -7,7 +34,31 @@ use Rattle.kt_tree.specs.declared.tokens.TokenKind.{TokenKind}
 use Rattle.kt_tree.specs.declared.tokens.TokenKind.TheVariants as kind
 use Rattle.kt_lexer.specs.declared.brackets.Open.{Open}
 use Rattle.kt_lexer.specs.declared.shapes.Shape.{Shape}
-use Rattle.kt_lexer.specs.Texts.{Lexeme, of_kind, blank, IsLexeme, IsLongest, in_string, after_token, place_behind, counts, AreTokens, at_end, token, dropped, skipped, NoneBegins, BreaksAt, here, behind_token, behind_blank, OneTokens, TokensOrRefused, NotBoth, OneRefusal}
+use Rattle.kt_lexer.specs.Texts.{
+  Lexeme,
+  of_kind,
+  blank,
+  IsLexeme,
+  IsLongest,
+  in_string,
+  after_token,
+  place_behind,
+  counts,
+  AreTokens,
+  at_end,
+  token,
+  dropped,
+  skipped,
+  NoneBegins,
+  BreaksAt,
+  here,
+  behind_token,
+  behind_blank,
+  OneTokens,
+  TokensOrRefused,
+  NotBoth,
+  OneRefusal,
+}
 use Rattle.kt_lexer.specs.Scanning.{Found, passed, lexeme_of, shape_at, ordinary_at, string_part_at, seen, after_lexeme}
 use Rattle.kt_lexer.proofs.Found.{IsFront, IsFound, passed_is}
 use Rattle.kt_lexer.proofs.FoundLexemes.{shape_found}

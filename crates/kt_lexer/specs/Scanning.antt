@@ -1,5 +1,27 @@
 -- How the lexeme at the front of a text is found: its shape, and the characters behind it.
-use Rattle.std.specs.Prelude.{ℕ, ◌+◌, ◌-◌, ◌*◌, ◌==◌, Bool, true, false, not, ◌&&◌, ◌||◌, if◌then◌else◌, List, [], ◌∷◌, Option, None, Some, length, take, drop}
+use Rattle.std.specs.Prelude.{
+  ℕ,
+  ◌+◌,
+  ◌-◌,
+  ◌*◌,
+  ◌==◌,
+  Bool,
+  true,
+  false,
+  not,
+  ◌&&◌,
+  ◌||◌,
+  if◌then◌else◌,
+  List,
+  [],
+  ◌∷◌,
+  Option,
+  None,
+  Some,
+  length,
+  take,
+  drop,
+}
 use Rattle.std.specs.Option.{option_map}
 use Rattle.std.specs.List.{find}
 use Rattle.std.specs.Cmp.Lexicographic.{pointwise}
@@ -18,7 +40,19 @@ use Rattle.kt_lexer.specs.declared.characters.CharacterClass.{CharacterClass}
 use Rattle.kt_lexer.specs.declared.characters.CharacterClass.TheVariants as class
 use Rattle.kt_lexer.specs.declared.shapes.Shape.{Shape}
 use Rattle.kt_lexer.specs.declared.shapes.Shape.TheVariants as shape
-use Rattle.kt_lexer.specs.Lexemes.{first, AllPass, is_letter, is_digit, is_word, is_hexadecimal, hexadecimal, is_plain, is_run, keyword_text, value_of}
+use Rattle.kt_lexer.specs.Lexemes.{
+  first,
+  AllPass,
+  is_letter,
+  is_digit,
+  is_word,
+  is_hexadecimal,
+  hexadecimal,
+  is_plain,
+  is_run,
+  keyword_text,
+  value_of,
+}
 use Rattle.kt_lexer.specs.Texts.{Lexeme, of_kind, blank, in_string, after_token, counts}
 use Rattle.kt_lexer.specs.Characters as char
 

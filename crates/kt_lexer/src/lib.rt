@@ -18,6 +18,3 @@ mod words;
 pub use laws::{not_both, one_refusal, one_tokens, source_tokens_or_refused, tokens_or_refused};
 pub use lexing::lex;
 pub use sources::lex_bytes;
-
-#[cfg(test)]
-mod tests;

@@ -8,8 +8,3 @@ mod trees;
 pub use laws::{one_source_refusal, one_source_tree, tree_excludes_refusal, tree_or_refusal};
 pub use sources::read_source;
 pub use trees::parse;
-
-#[cfg(test)]
-mod table;
-#[cfg(test)]
-mod tests;

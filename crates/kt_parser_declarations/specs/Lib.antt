@@ -1,3 +1,4 @@
+pub mod StepTurns
 pub mod Openings
 pub mod Scopes
 pub mod Rests

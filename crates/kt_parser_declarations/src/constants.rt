@@ -3,14 +3,14 @@
 ghost use Rattle.kt_parser_declarations.specs.Rests as rests;
 ghost use Rattle.kt_grammar.specs.DeclarationParser as parser;
 ghost use Rattle.kt_grammar.specs.Readers.{lines, several_items};
-ghost use Rattle.kt_parser_steps.specs.Steps.{ReadsAs, turn_tree};
+ghost use Rattle.kt_parser_steps.specs.Steps.{Expects, ReadsAs, turn_tree};
 ghost use Rattle.kt_tree.specs.Declarations.{constant_tree, declaration_tree};
 ghost use Rattle.std.specs.Prelude.{◌≡◌, map, Ok};
 
 use crate::levels::annotation;
 use kt_parser_steps::{
-    Lead, ParseError, TokenClass, Tokens, Turn, beside, expect, expect_identifier, expect_keyword,
-    meant_text, name_of, repeat, several, take_literal,
+    Lead, ParseError, Refused, TokenClass, Tokens, Turn, beside, expect, expect_identifier,
+    expect_keyword, meant_text, name_of, repeat, several, take_literal,
 };
 use kt_tree::{
     ConstantDeclaration, ConstantValue, Declaration, EnumEntry, Keyword, Sign, TextPart, Token,
@@ -122,20 +122,20 @@ fn minus(tokens: &mut Tokens<'_>) -> bool
 }
 
 /// `'-'? literal`
-fn literal_value(tokens: &mut Tokens<'_>) -> Result<ConstantValue, ParseError>
-    ensures { ReadsAs (λ value. value) (rests.literal_value tokens.old) result tokens.new }
+fn literal_value(tokens: &mut Tokens<'_>) -> Result<ConstantValue, Refused>
+    ensures { Expects (λ value. value) (rests.literal_value tokens.old) result tokens.new }
 {
     let negative = minus(tokens);
     literal_behind(negative, tokens)
 }
 
 /// `literal`, behind the `-` where it is negative.
-fn literal_behind(negative: bool, tokens: &mut Tokens<'_>) -> Result<ConstantValue, ParseError>
-    ensures { ReadsAs (λ value. value) (rests.literal_behind negative tokens.old) result tokens.new }
+fn literal_behind(negative: bool, tokens: &mut Tokens<'_>) -> Result<ConstantValue, Refused>
+    ensures { Expects (λ value. value) (rests.literal_behind negative tokens.old) result tokens.new }
 {
     match take_literal(true, tokens) {
         Some((_, literal)) => Ok(nodes::constant_literal(negative, literal)),
-        None => Err(ParseError::Refused),
+        None => Err(Refused),
     }
 }
 
@@ -145,7 +145,7 @@ fn constant_value(alloc: Global, tokens: &mut Tokens<'_>) -> Result<ConstantValu
 {
     match tokens.take_class(TokenClass::OpenQuote) {
         Some(_) => text_value(alloc, tokens),
-        None => literal_value(tokens),
+        None => Ok(literal_value(tokens)?),
     }
 }
 

@@ -5,15 +5,14 @@ ghost use Rattle.kt_parser_declarations.specs.Rests as rests;
 ghost use Rattle.kt_grammar.specs.DeclarationParser as parser;
 ghost use Rattle.kt_parser_steps.specs.Steps.{Finds, ReadsAs};
 ghost use Rattle.kt_tree.specs.Declarations.{declaration_tree};
-ghost use Rattle.std.specs.Prelude.{IfOk, map};
+ghost use Rattle.std.specs.Prelude.{map};
 
 use crate::classes::{class_rest, interface_rest};
 use crate::constants::{constant_rest, enum_rest};
 use crate::functions::{Scope, function};
 use crate::lists::items_until;
 use crate::modifiers::{Opening, class_word};
-use kt_base::NoMemory;
-use kt_parser_steps::{ParseError, TokenClass, Tokens, attempt_if};
+use kt_parser_steps::{ParseError, TokenClass, Tokens, part_if};
 use kt_tree::{ClassModifiers, Declaration, Keyword, SoftKeyword, Token};
 use kt_tree_nodes::declarations as nodes;
 use sqlite_items::Items;
@@ -64,18 +63,17 @@ fn function_declaration(alloc: Global, tokens: &mut Tokens<'_>) -> Result<Declar
 }
 
 /// Takes modifiers and `class`, where they stand. Else the cursor goes back.
-fn class_word_ahead(tokens: &mut Tokens<'_>) -> Result<Option<Opening<ClassModifiers>>, NoMemory>
-    ensures { IfOk result (λ found. Finds opening_tree (parser.class_word tokens.old) tokens.old found tokens.new) }
+fn class_word_ahead(tokens: &mut Tokens<'_>) -> Option<Opening<ClassModifiers>>
+    ensures { Finds opening_tree (parser.class_word tokens.old) tokens.old result tokens.new }
 {
-    attempt_if(true, tokens, &class_word)
+    part_if(true, tokens, &class_word)
 }
 
 /// A class or a function, which may begin with the same modifiers.
 fn class_or_function(alloc: Global, tokens: &mut Tokens<'_>) -> Result<Declaration, ParseError>
     ensures { ReadsAs declaration_tree (rests.class_or_function tokens.old) result tokens.new }
 {
-    let word = class_word_ahead(tokens)?;
-    match word {
+    match class_word_ahead(tokens) {
         Some(opening) => class_declaration(alloc, opening, tokens),
         None => function_declaration(alloc, tokens),
     }

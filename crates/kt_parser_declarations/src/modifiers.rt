@@ -4,11 +4,12 @@ ghost use Rattle.kt_parser_declarations.specs.Rests as rests;
 ghost use Rattle.kt_parser_declarations.specs.Openings.{modified_tree, opening_tree};
 ghost use Rattle.kt_grammar.specs.DeclarationParser as parser;
 ghost use Rattle.kt_grammar.specs.Declarations as grammar;
-ghost use Rattle.kt_parser_steps.specs.Steps.{ReadsAs, turn_tree};
+ghost use Rattle.kt_parser_steps.specs.Steps.{Expects, turn_tree};
 ghost use Rattle.std.specs.Prelude.{◌≡◌};
 
+use crate::lists::repeat_steps;
 use kt_base::Pos;
-use kt_parser_steps::{Node, ParseError, Tokens, Turn, expect_keyword, repeat, soft_keyword_if};
+use kt_parser_steps::{Node, Refused, Tokens, Turn, expect_keyword, soft_keyword_if};
 use kt_tree::{ClassModifiers, FunctionModifiers, Keyword, SoftKeyword, Token};
 
 /// The modifiers so far, and the place of the first of them.
@@ -101,8 +102,8 @@ impl<M: Copy> Modified<M> {
 fn fun_turn(
     so_far: Modified<FunctionModifiers>,
     tokens: &mut Tokens<'_>,
-) -> Result<Turn<Modified<FunctionModifiers>, Opening<FunctionModifiers>>, ParseError>
-    ensures { ReadsAs (turn_tree modified_tree opening_tree) (rests.fun_turn (modified_tree so_far) tokens.old)
+) -> Result<Turn<Modified<FunctionModifiers>, Opening<FunctionModifiers>>, Refused>
+    ensures { Expects (turn_tree modified_tree opening_tree) (rests.fun_turn (modified_tree so_far) tokens.old)
         result tokens.new }
 {
     let keyword = expect_keyword(tokens, Keyword::Fun)?;
@@ -113,8 +114,8 @@ fn fun_turn(
 fn function_turn(
     so_far: Modified<FunctionModifiers>,
     tokens: &mut Tokens<'_>,
-) -> Result<Turn<Modified<FunctionModifiers>, Opening<FunctionModifiers>>, ParseError>
-    ensures { ReadsAs (turn_tree modified_tree opening_tree) (parser.function_turn (modified_tree so_far) tokens.old)
+) -> Result<Turn<Modified<FunctionModifiers>, Opening<FunctionModifiers>>, Refused>
+    ensures { Expects (turn_tree modified_tree opening_tree) (parser.function_turn (modified_tree so_far) tokens.old)
         result tokens.new }
 {
     let modifiers = so_far.modifiers;
@@ -158,8 +159,8 @@ fn function_turn(
 }
 
 /// `fmod* 'fun'`
-pub(crate) fn fun_word(tokens: &mut Tokens<'_>) -> Result<Opening<FunctionModifiers>, ParseError>
-    ensures { ReadsAs opening_tree (parser.fun_word tokens.old) result tokens.new }
+pub(crate) fn fun_word(tokens: &mut Tokens<'_>) -> Result<Opening<FunctionModifiers>, Refused>
+    ensures { Expects opening_tree (parser.fun_word tokens.old) result tokens.new }
 {
     let none = FunctionModifiers {
         is_override: false,
@@ -167,7 +168,7 @@ pub(crate) fn fun_word(tokens: &mut Tokens<'_>) -> Result<Opening<FunctionModifi
         is_abstract: false,
         is_suspend: false,
     };
-    repeat(tokens, Modified::none(none), &function_turn)
+    repeat_steps(tokens, Modified::none(none), &function_turn)
 }
 
 // ---- classes
@@ -176,8 +177,8 @@ pub(crate) fn fun_word(tokens: &mut Tokens<'_>) -> Result<Opening<FunctionModifi
 fn class_keyword_turn(
     so_far: Modified<ClassModifiers>,
     tokens: &mut Tokens<'_>,
-) -> Result<Turn<Modified<ClassModifiers>, Opening<ClassModifiers>>, ParseError>
-    ensures { ReadsAs (turn_tree modified_tree opening_tree)
+) -> Result<Turn<Modified<ClassModifiers>, Opening<ClassModifiers>>, Refused>
+    ensures { Expects (turn_tree modified_tree opening_tree)
         (rests.class_keyword_turn (modified_tree so_far) tokens.old) result tokens.new }
 {
     let keyword = expect_keyword(tokens, Keyword::Class)?;
@@ -188,8 +189,8 @@ fn class_keyword_turn(
 fn class_turn(
     so_far: Modified<ClassModifiers>,
     tokens: &mut Tokens<'_>,
-) -> Result<Turn<Modified<ClassModifiers>, Opening<ClassModifiers>>, ParseError>
-    ensures { ReadsAs (turn_tree modified_tree opening_tree) (parser.class_turn (modified_tree so_far) tokens.old)
+) -> Result<Turn<Modified<ClassModifiers>, Opening<ClassModifiers>>, Refused>
+    ensures { Expects (turn_tree modified_tree opening_tree) (parser.class_turn (modified_tree so_far) tokens.old)
         result tokens.new }
 {
     let modifiers = so_far.modifiers;
@@ -224,13 +225,13 @@ fn class_turn(
 }
 
 /// `('open' | 'abstract' | 'data')* 'class'`
-pub(crate) fn class_word(tokens: &mut Tokens<'_>) -> Result<Opening<ClassModifiers>, ParseError>
-    ensures { ReadsAs opening_tree (parser.class_word tokens.old) result tokens.new }
+pub(crate) fn class_word(tokens: &mut Tokens<'_>) -> Result<Opening<ClassModifiers>, Refused>
+    ensures { Expects opening_tree (parser.class_word tokens.old) result tokens.new }
 {
     let none = ClassModifiers {
         is_open: false,
         is_abstract: false,
         is_data: false,
     };
-    repeat(tokens, Modified::none(none), &class_turn)
+    repeat_steps(tokens, Modified::none(none), &class_turn)
 }

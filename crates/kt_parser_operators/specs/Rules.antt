@@ -1,6 +1,7 @@
 -- The productions of operators and suffixes, over what holds `n` levels: each has `n + 1` itself.
 use Rattle.std.specs.Prelude.{ℕ, suc, Bool, List, [], ◌∷◌, ◌++◌, ◌⊎◌}
 use Rattle.std.proofs.Common.{inl, inr}
+use Rattle.kt_base.specs.declared.refusals.Pos.{Pos}
 use Rattle.kt_tree.specs.declared.tokens.Token.{Token}
 use Rattle.kt_tree.specs.declared.tokens.Sign.TheVariants as sign
 use Rattle.kt_tree.specs.declared.bodies.BinaryOperator.{BinaryOperator}
@@ -45,7 +46,7 @@ member_rest a safe = lines >> (token is_identifier >>= (λ x. pure (inl (e.membe
 abbrev pub member_turn : Bool → ExpressionTree → Parser Token (ExpressionTree ⊎ ExpressionTree)
 member_turn allowed a = attempt_if allowed member_sign (λ safe. member_rest a safe.1) (pure (inr a))
 
-abbrev pub type_arguments_of_call : ℕ → Parser Token (List TypeTree)
+abbrev pub type_arguments_of_call : ℕ → Parser Token (List TypeTree × Pos)
 type_arguments_of_call n = p.type_arguments_of_call (suc n) (parsers n) outside
 
 module _ (n : ℕ) (at : Context) where
@@ -66,10 +67,14 @@ module _ (n : ℕ) (at : Context) where
   abbrev pub arguments_rest : Parser Token (List ExpressionTree)
   arguments_rest = p.arguments_rest (suc n) (parsers n) at
 
-  abbrev pub lambda_argument : Parser Token (List ExpressionTree)
-  lambda_argument = (parsers n).lambda at >>= (λ l. pure (l ∷ []))
+  -- the arguments in parentheses, behind `(`, and its place
+  abbrev pub placed_arguments : Pos → Parser Token (List ExpressionTree × Pos)
+  placed_arguments start = arguments_rest >>= (λ es. pure (es, start))
 
-  abbrev pub call_arguments : Parser Token (List ExpressionTree)
+  abbrev pub lambda_argument : Parser Token (List ExpressionTree × Pos)
+  lambda_argument = (parsers n).lambda at >>= (λ l. pure (l ∷ [], place l))
+
+  abbrev pub call_arguments : Parser Token (List ExpressionTree × Pos)
   call_arguments = p.call_parser (suc n) (parsers n) at
 
   -- a suffix that is no call
@@ -79,13 +84,17 @@ module _ (n : ℕ) (at : Context) where
       (on_if (has_more n a) (is_sign sign.OpenBracket) (λ _. element_rest a) (member_turn (has_more n a) a))
 
   -- the arguments of a call, behind its type arguments
-  abbrev pub call_rest : ExpressionTree → List TypeTree → Parser Token (ExpressionTree ⊎ ExpressionTree)
+  abbrev pub call_rest : ExpressionTree → List TypeTree × Pos → Parser Token (ExpressionTree ⊎ ExpressionTree)
   call_rest = p.call_of (suc n) (parsers n) at
+
+  -- a call without type arguments
+  abbrev pub plain_call : ExpressionTree → Parser Token (ExpressionTree ⊎ ExpressionTree)
+  plain_call = p.plain_call (suc n) (parsers n) at
 
   -- a suffix without type arguments
   abbrev pub plain_suffix_turn : ExpressionTree → Parser Token (ExpressionTree ⊎ ExpressionTree)
   plain_suffix_turn a =
-      attempt_if (p.has_call (suc n) (parsers n) at a) (ahead opens_arguments) (λ _. call_rest a [])
+      attempt_if (p.has_call (suc n) (parsers n) at a) (ahead opens_arguments) (λ _. plain_call a)
       (other_suffix_turn a)
 
   abbrev pub suffix_turn : ExpressionTree → Parser Token (ExpressionTree ⊎ ExpressionTree)

@@ -13,6 +13,7 @@ ghost use Rattle.kt_tree.specs.Types.{type_tree};
 ghost use Rattle.std.specs.Prelude.{◌≡◌, map, suc};
 
 use crate::operators::Operators;
+use kt_base::Pos;
 use kt_grammar::Context;
 use kt_parser_blocks::Precedence;
 use kt_parser_primaries::Primaries;
@@ -20,9 +21,9 @@ use kt_parser_steps::{
     ParseError, TokenClass, Tokens, Turn, attempt_if, beside, class_ahead, class_ahead_if, expect,
     expect_identifier, maybe_comma_list, name_of, repeat, sign_ahead, sign_if, take_member,
 };
-use kt_parser_types::type_arguments;
+use kt_parser_types::type_list;
 use kt_tree::{Expression, ExpressionKind, Sign, Statement, TypeReference};
-use kt_tree_nodes::expressions::{call, index, member, not_null};
+use kt_tree_nodes::expressions::{call, index, member, not_null, place_of};
 use sqlite_items::Items;
 use std::alloc::Global;
 
@@ -60,28 +61,47 @@ impl<
         );
         let (value, types) = beside(value, types)?;
         match types {
-            Some(types) => self.call_rest(at, value, types, tokens),
+            Some((types, start)) => self.call_rest(at, value, start, types, tokens),
             None => self.plain_suffix_turn(at, value, tokens),
         }
     }
 
-    /// `arguments`, those of a call, behind its type arguments.
+    /// `arguments`, those of a call, behind its type arguments, which begin at `start`.
     fn call_rest(
         &self,
         at: Context,
         value: Expression,
+        start: Pos,
         types: Items<TypeReference>,
         tokens: &mut Tokens<'_>,
     ) -> Result<Turn<Expression, Expression>, ParseError>
         requires { AreRead self.now.below.room (E.pre self.now.below.expression) (E.post self.now.below.expression)
             (S.pre self.now.below.statement) (S.post self.now.below.statement) }
         ensures { ReadsAs (turn_tree expression_tree expression_tree)
-            (rules.call_rest self.now.below.room at (expression_tree value) (map type_tree types) tokens.old)
+            (rules.call_rest self.now.below.room at (expression_tree value) (map type_tree types, start) tokens.old)
             result tokens.new }
     {
         let arguments = self.call_arguments(at, tokens);
-        let ((value, types), arguments) = beside((value, types), arguments)?;
-        Ok(Turn::More(call(self.below.alloc, value, types, arguments)?))
+        let ((value, types), (arguments, _)) = beside((value, types), arguments)?;
+        Ok(Turn::More(call(self.below.alloc, value, start, types, arguments)?))
+    }
+
+    /// `arguments`, those of a call without type arguments.
+    fn plain_call(
+        &self,
+        at: Context,
+        value: Expression,
+        tokens: &mut Tokens<'_>,
+    ) -> Result<Turn<Expression, Expression>, ParseError>
+        requires { AreRead self.now.below.room (E.pre self.now.below.expression) (E.post self.now.below.expression)
+            (S.pre self.now.below.statement) (S.post self.now.below.statement) }
+        ensures { ReadsAs (turn_tree expression_tree expression_tree)
+            (rules.plain_call self.now.below.room at (expression_tree value) tokens.old) result tokens.new }
+    {
+        let arguments = self.call_arguments(at, tokens);
+        let (value, (arguments, start)) = beside(value, arguments)?;
+        let types = Items::new(self.below.alloc);
+        Ok(Turn::More(call(self.below.alloc, value, start, types, arguments)?))
     }
 
     /// A primary expression, and the suffixes behind it.
@@ -102,19 +122,20 @@ impl<
         )
     }
 
-    /// Type arguments, where the arguments of a call follow.
+    /// Type arguments, where the arguments of a call follow, and the place of the `<`.
     fn type_arguments_of_call(
         &self,
         tokens: &mut Tokens<'_>,
-    ) -> Result<Items<TypeReference>, ParseError>
+    ) -> Result<(Items<TypeReference>, Pos), ParseError>
         requires { AreRead self.now.below.room (E.pre self.now.below.expression) (E.post self.now.below.expression)
             (S.pre self.now.below.statement) (S.post self.now.below.statement) }
-        ensures { ReadsAs (map type_tree) (rules.type_arguments_of_call self.now.below.room tokens.old)
-            result tokens.new }
+        ensures { ReadsAs (λ list. (map type_tree list.0, list.1))
+            (rules.type_arguments_of_call self.now.below.room tokens.old) result tokens.new }
     {
-        let types = type_arguments(self.below.alloc, self.below.room + 1, tokens)?;
+        let start = expect(tokens, Sign::Less)?.pos;
+        let types = type_list(self.below.alloc, self.below.room + 1, tokens)?;
         if class_ahead(tokens, TokenClass::OpensArguments) {
-            Ok(types)
+            Ok((types, start))
         } else {
             Err(ParseError::Refused)
         }
@@ -149,7 +170,7 @@ impl<
     {
         let allowed = self.has_call(&value);
         if class_ahead_if(allowed, tokens, TokenClass::OpensArguments) {
-            self.call_rest(at, value, Items::new(self.below.alloc), tokens)
+            self.plain_call(at, value, tokens)
         } else {
             self.other_suffix_turn(at, value, tokens)
         }
@@ -229,38 +250,56 @@ impl<
         Ok(Turn::More(member(self.below.alloc, value, safe, name)?))
     }
 
-    /// The arguments of a call: in parentheses and perhaps a lambda behind them, or a lambda alone.
+    /// The arguments of a call, in parentheses and perhaps a lambda behind them, or a lambda alone; and where they
+    /// begin.
     fn call_arguments(
         &self,
         at: Context,
         tokens: &mut Tokens<'_>,
-    ) -> Result<Items<Expression>, ParseError>
+    ) -> Result<(Items<Expression>, Pos), ParseError>
         requires { AreRead self.now.below.room (E.pre self.now.below.expression) (E.post self.now.below.expression)
             (S.pre self.now.below.statement) (S.post self.now.below.statement) }
-        ensures { ReadsAs (map expression_tree) (rules.call_arguments self.now.below.room at tokens.old)
-            result tokens.new }
+        ensures { ReadsAs (λ list. (map expression_tree list.0, list.1))
+            (rules.call_arguments self.now.below.room at tokens.old) result tokens.new }
     {
         match tokens.take_sign(Sign::OpenParenthesis) {
-            Some(_) => self.arguments_rest(at, tokens),
+            Some(token) => self.placed_arguments(token.pos, at, tokens),
             None => self.lambda_argument(at, tokens),
         }
     }
 
-    /// A lambda alone.
+    /// The arguments behind `(`, which stands at `start`.
+    fn placed_arguments(
+        &self,
+        start: Pos,
+        at: Context,
+        tokens: &mut Tokens<'_>,
+    ) -> Result<(Items<Expression>, Pos), ParseError>
+        requires { AreRead self.now.below.room (E.pre self.now.below.expression) (E.post self.now.below.expression)
+            (S.pre self.now.below.statement) (S.post self.now.below.statement) }
+        ensures { ReadsAs (λ list. (map expression_tree list.0, list.1))
+            (rules.placed_arguments self.now.below.room at start tokens.old) result tokens.new }
+    {
+        let arguments = self.arguments_rest(at, tokens)?;
+        Ok((arguments, start))
+    }
+
+    /// A lambda alone, and where it begins.
     fn lambda_argument(
         &self,
         at: Context,
         tokens: &mut Tokens<'_>,
-    ) -> Result<Items<Expression>, ParseError>
+    ) -> Result<(Items<Expression>, Pos), ParseError>
         requires { AreRead self.now.below.room (E.pre self.now.below.expression) (E.post self.now.below.expression)
             (S.pre self.now.below.statement) (S.post self.now.below.statement) }
-        ensures { ReadsAs (map expression_tree) (rules.lambda_argument self.now.below.room at tokens.old)
-            result tokens.new }
+        ensures { ReadsAs (λ list. (map expression_tree list.0, list.1))
+            (rules.lambda_argument self.now.below.room at tokens.old) result tokens.new }
     {
         let lambda = self.below.inner_lambda(at, tokens)?;
+        let start = place_of(&lambda);
         let mut arguments = Items::new(self.below.alloc);
         arguments.push(lambda)?;
-        Ok(arguments)
+        Ok((arguments, start))
     }
 
     /// Expressions with commas between them, and the `)` behind them.

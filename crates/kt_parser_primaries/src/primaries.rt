@@ -1,15 +1,15 @@
 //! Primary expressions, in the order in which they are told apart by their first token.
 
 ghost use Rattle.kt_parser_blocks.specs.Below.{AreRead};
-ghost use Rattle.kt_parser_steps.specs.Steps.{ReadsAs};
+ghost use Rattle.kt_parser_steps.specs.Steps.{Expects, ReadsAs};
 ghost use Rattle.kt_tree.specs.Bodies.{expression_tree};
 ghost use Rattle.kt_parser_primaries.specs.Rules as rules;
 
 use kt_grammar::Context;
 use kt_parser_blocks::{Below, Precedence};
 use kt_parser_steps::{
-    ParseError, TokenClass, Tokens, beside, class_ahead, expect, keyword_if, name_of, sign_if,
-    take_literal,
+    ParseError, Refused, TokenClass, Tokens, beside, class_ahead, expect, keyword_if, name_of,
+    sign_if, take_literal,
 };
 use kt_tree::{Expression, Keyword, Sign, Statement, Token};
 use kt_tree_nodes::expressions::{
@@ -170,7 +170,7 @@ impl<
                 Some(token) => Ok(this(token.pos)),
                 None => match tokens.take_identifier() {
                     Some(token) => Ok(name(token.pos, name_of(self.below.alloc, token)?)),
-                    None => literal_atom(tokens),
+                    None => Ok(literal_atom(tokens)?),
                 },
             },
         }
@@ -178,11 +178,11 @@ impl<
 }
 
 /// A literal that is no string.
-fn literal_atom(tokens: &mut Tokens<'_>) -> Result<Expression, ParseError>
-    ensures { ReadsAs expression_tree (rules.literal_atom tokens.old) result tokens.new }
+fn literal_atom(tokens: &mut Tokens<'_>) -> Result<Expression, Refused>
+    ensures { Expects expression_tree (rules.literal_atom tokens.old) result tokens.new }
 {
     match take_literal(true, tokens) {
         Some((token, value)) => Ok(literal(token.pos, value)),
-        None => Err(ParseError::Refused),
+        None => Err(Refused),
     }
 }

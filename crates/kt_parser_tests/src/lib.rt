@@ -1,4 +1,4 @@
-//! Tests of the parsers of expressions, statements and files over lists of tokens.
+//! Tests of the parsers of types, expressions, statements and files over lists of tokens.
 //!
 //! A crate with tests is proved once more together with them, so these stand above the crates that they test.
 #![tactic(auto)]
@@ -9,3 +9,5 @@ mod cursor;
 mod declarations;
 #[cfg(test)]
 mod expressions;
+#[cfg(test)]
+mod types;

@@ -3,7 +3,4 @@
 
 pub mod types;
 
-pub use types::{annotation, named_type, read_type, type_arguments};
-
-#[cfg(test)]
-mod tests;
+pub use types::{annotation, named_type, read_type, type_list};

@@ -263,20 +263,20 @@ pub fn read_type(
     .whole(tokens)
 }
 
-/// Type arguments, each of at most `room` levels.
-pub fn type_arguments(
+/// The types of a list behind its `<`, each of at most `room` levels, and the `>`.
+pub fn type_list(
     alloc: Global,
     room: u32,
     tokens: &mut Tokens<'_>,
 ) -> Result<Items<TypeReference>, ParseError>
-    ensures { ReadsAs (map type_tree) (readers.type_arguments (type_parser room) tokens.old) result tokens.new }
+    ensures { ReadsAs (map type_tree) (readers.commas (is_sign sign.Greater) (type_parser room) tokens.old) result tokens.new }
 {
     TypesBelow {
         alloc,
         room,
         read: read_type,
     }
-    .arguments(tokens)
+    .several(Sign::Greater, tokens)
 }
 
 /// A name and its type arguments, each of at most `room` levels; without room there are none.

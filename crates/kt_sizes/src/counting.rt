@@ -362,7 +362,7 @@ pub fn statements_sizes(statements: &[TypedStatement]) -> Sizes
 
 /// A statement.
 #[cycle(sizes)]
-fn statement_sizes(statement: &TypedStatement) -> Sizes
+pub fn statement_sizes(statement: &TypedStatement) -> Sizes
     ensures { result ≡ capped (spec.sizes_of_statement (statement_form statement.now)) }
 {
     match &statement.kind {

@@ -12,7 +12,7 @@ use kt_typed::TypedFun;
 impl Sizes {
     /// The weight of a body that counts so, with so many captures, parameters and locals.
     #[tactic(auto, using(crate::proofs::Products::weight_from))]
-    fn weight(self, captures: u64, parameters: u64, locals: u64) -> u64
+    pub fn weight(self, captures: u64, parameters: u64, locals: u64) -> u64
         ensures { (s : Sizes) → self ≡ capped s → result ≡ cap (spec.weight_of s captures parameters locals) }
     {
         let nodes = self.nodes.saturating_add(parameters).saturating_mul(48);

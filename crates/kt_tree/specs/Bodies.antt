@@ -18,8 +18,30 @@ use Rattle.kt_tree.specs.declared.bodies.Expression.{Expression}
 use Rattle.kt_tree.specs.declared.bodies.LambdaLiteral.{LambdaLiteral}
 use Rattle.kt_tree.specs.declared.bodies.Statement.{Statement}
 use Rattle.kt_tree.specs.declared.bodies.WhenEntry.{WhenEntry}
-use Rattle.kt_tree.specs.declared.bodies.ControlStructureBody.TheOpen.{ControlStructureBody-F, ExpressionKind-F, StatementKind-F, StringPart-F, WhenCondition-F, Block-F, CatchBlock-F, Expression-F, LambdaLiteral-F, Statement-F, WhenEntry-F}
-use Rattle.kt_tree.specs.declared.bodies.ControlStructureBody.TheFolds.{fold-ControlStructureBody, fold-StringPart, fold-WhenCondition, fold-Block, fold-CatchBlock, fold-Expression, fold-LambdaLiteral, fold-Statement, fold-WhenEntry}
+use Rattle.kt_tree.specs.declared.bodies.ControlStructureBody.TheOpen.{
+  ControlStructureBody-F,
+  ExpressionKind-F,
+  StatementKind-F,
+  StringPart-F,
+  WhenCondition-F,
+  Block-F,
+  CatchBlock-F,
+  Expression-F,
+  LambdaLiteral-F,
+  Statement-F,
+  WhenEntry-F,
+}
+use Rattle.kt_tree.specs.declared.bodies.ControlStructureBody.TheFolds.{
+  fold-ControlStructureBody,
+  fold-StringPart,
+  fold-WhenCondition,
+  fold-Block,
+  fold-CatchBlock,
+  fold-Expression,
+  fold-LambdaLiteral,
+  fold-Statement,
+  fold-WhenEntry,
+}
 use Rattle.kt_tree.specs.Types.{TypeTree, type_tree, maybe_type}
 
 -- a parameter of a lambda literal
@@ -46,7 +68,8 @@ mutual
     not_null : Pos → ExpressionTree → ExpressionTree
     member : Pos → ExpressionTree → Bool → List ℕ → ExpressionTree
     index : Pos → ExpressionTree → ExpressionTree → ExpressionTree
-    call : Pos → ExpressionTree → List TypeTree → ExpressionTrees → ExpressionTree
+    -- of a call the place of the first token behind what is called as well
+    call : Pos → ExpressionTree → Pos → List TypeTree → ExpressionTrees → ExpressionTree
     if_else : Pos → ExpressionTree → BodyTree → MaybeBody → ExpressionTree
     when : Pos → MaybeExpression → EntryTrees → ExpressionTree
     try_catch : Pos → BlockTree → CatchTrees → MaybeBlock → ExpressionTree
@@ -200,7 +223,7 @@ kind_seen (ExpressionKind-F.Cast e safe t) at = cast at e safe (type_tree t)
 kind_seen (ExpressionKind-F.NotNull e) at = not_null at e
 kind_seen (ExpressionKind-F.Member e safe x) at = member at e safe x
 kind_seen (ExpressionKind-F.Index e i) at = index at e i
-kind_seen (ExpressionKind-F.Call f ts es) at = call at f (map type_tree ts) (expressions_of es)
+kind_seen (ExpressionKind-F.Call f start ts es) at = call at f start (map type_tree ts) (expressions_of es)
 kind_seen (ExpressionKind-F.If e b c) at = if_else at e b (maybe_body c)
 kind_seen (ExpressionKind-F.When e es) at = when at (maybe_expression e) (entries_of es)
 kind_seen (ExpressionKind-F.Try b cs f) at = try_catch at b (catches_of cs) (maybe_block f)

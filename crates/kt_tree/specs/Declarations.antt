@@ -69,12 +69,10 @@ function_tree f =
       at = f.at;
       modifiers = f.modifiers;
       type_parameters = map type_parameter_tree f.type_parameters;
-      name =
-          f.name;
+      name = f.name;
       parameters = map typed_parameter_tree f.parameters;
       result = maybe_type f.result;
-      body =
-          maybe_function_body f.body;
+      body = maybe_function_body f.body;
     }
 
 pub record ConstructorParameterTree : Type 0 where
@@ -117,8 +115,7 @@ property_tree p =
       is_variable = p.is_variable;
       name = p.name;
       annotation = type_tree p.annotation;
-      initializer =
-          expression_tree p.initializer;
+      initializer = expression_tree p.initializer;
     }
 
 pub data MemberTree : Type 0 where
@@ -144,11 +141,9 @@ class_tree c =
       at = c.at;
       modifiers = c.modifiers;
       name = c.name;
-      type_parameters = map type_parameter_tree
-          c.type_parameters;
+      type_parameters = map type_parameter_tree c.type_parameters;
       parameters = map constructor_parameter_tree c.parameters;
-      supertypes =
-          map supertype_tree c.supertypes;
+      supertypes = map supertype_tree c.supertypes;
       members = map member_tree c.members;
     }
 
@@ -165,8 +160,7 @@ interface_tree i =
       at = i.at;
       name = i.name;
       type_parameters = map type_parameter_tree i.type_parameters;
-      supertypes = map
-          type_tree i.supertypes;
+      supertypes = map type_tree i.supertypes;
       functions = map function_tree i.functions;
     }
 

@@ -8,9 +8,43 @@ use Rattle.kt_tree.specs.declared.bodies.TextPart.{TextPart}
 use Rattle.kt_tree.specs.Types as t
 use Rattle.kt_tree.specs.Types.{TypeTree, TypeTrees}
 use Rattle.kt_tree.specs.Bodies as e
-use Rattle.kt_tree.specs.Bodies.{ExpressionTree, ExpressionTrees, MaybeExpression, PartTree, PartTrees, LambdaTree, EntryTree, EntryTrees, ConditionTree, ConditionTrees, CatchTree, CatchTrees, BodyTree, MaybeBody, BlockTree, MaybeBlock, StatementTree, StatementTrees, ParameterTree}
+use Rattle.kt_tree.specs.Bodies.{
+  ExpressionTree,
+  ExpressionTrees,
+  MaybeExpression,
+  PartTree,
+  PartTrees,
+  LambdaTree,
+  EntryTree,
+  EntryTrees,
+  ConditionTree,
+  ConditionTrees,
+  CatchTree,
+  CatchTrees,
+  BodyTree,
+  MaybeBody,
+  BlockTree,
+  MaybeBlock,
+  StatementTree,
+  StatementTrees,
+  ParameterTree,
+}
 use Rattle.kt_tree.specs.Declarations as d
-use Rattle.kt_tree.specs.Declarations.{TypeParameterTree, TypedParameterTree, FunctionBodyTree, FunctionTree, ConstructorParameterTree, SuperArgumentsTree, SupertypeTree, PropertyTree, MemberTree, ClassTree, InterfaceTree, ConstantTree, DeclarationTree}
+use Rattle.kt_tree.specs.Declarations.{
+  TypeParameterTree,
+  TypedParameterTree,
+  FunctionBodyTree,
+  FunctionTree,
+  ConstructorParameterTree,
+  SuperArgumentsTree,
+  SupertypeTree,
+  PropertyTree,
+  MemberTree,
+  ClassTree,
+  InterfaceTree,
+  ConstantTree,
+  DeclarationTree,
+}
 
 -- the greatest number, and 0 of none
 abbrev pub most : List ℕ → ℕ
@@ -65,7 +99,7 @@ abbrev mutual
   levels (e.not_null at a) = levels a + 1
   levels (e.member at a safe x) = levels a + 1
   levels (e.index at a b) = max (levels a) (levels b) + 1
-  levels (e.call at f rs es) =
+  levels (e.call at f start rs es) =
       max (max (below_call f (levels f)) (expressions_levels es) + 1) (most (map type_levels rs))
   levels (e.if_else at a b c) = max (levels a) (max (body_levels b) (maybe_body_levels c)) + 1
   levels (e.when at a es) = max (maybe_levels a) (entries_levels es) + 1

@@ -6,16 +6,66 @@
 --   3  otherwise.
 -- Each node has one of these by itself, or 0 where it asks for none, and the stage of a tree is the greatest of its
 -- nodes', and at least 3. So it is the first of the four that holds.
-use Rattle.std.specs.Prelude.{ℕ, max, Bool, true, false, ◌==◌, ◌||◌, if◌then◌else◌, List, Option, Some, None, map, codes}
+use Rattle.std.specs.Prelude.{
+  ℕ,
+  max,
+  Bool,
+  true,
+  false,
+  ◌==◌,
+  ◌||◌,
+  if◌then◌else◌,
+  List,
+  Option,
+  Some,
+  None,
+  map,
+  codes,
+}
 use Rattle.std.specs.Cmp.Lexicographic.{pointwise}
 use Rattle.kt_tree.specs.declared.declarations.EnumEntry.{EnumEntry}
 use Rattle.kt_tree.specs.declared.declarations.EnumDeclaration.{EnumDeclaration}
 use Rattle.kt_tree.specs.Types as t
 use Rattle.kt_tree.specs.Types.{TypeTree, TypeTrees, types_of}
 use Rattle.kt_tree.specs.Bodies as e
-use Rattle.kt_tree.specs.Bodies.{ExpressionTree, ExpressionTrees, MaybeExpression, PartTree, PartTrees, LambdaTree, EntryTree, EntryTrees, ConditionTree, ConditionTrees, CatchTree, CatchTrees, BodyTree, MaybeBody, BlockTree, MaybeBlock, StatementTree, StatementTrees, ParameterTree, expressions_of}
+use Rattle.kt_tree.specs.Bodies.{
+  ExpressionTree,
+  ExpressionTrees,
+  MaybeExpression,
+  PartTree,
+  PartTrees,
+  LambdaTree,
+  EntryTree,
+  EntryTrees,
+  ConditionTree,
+  ConditionTrees,
+  CatchTree,
+  CatchTrees,
+  BodyTree,
+  MaybeBody,
+  BlockTree,
+  MaybeBlock,
+  StatementTree,
+  StatementTrees,
+  ParameterTree,
+  expressions_of,
+}
 use Rattle.kt_tree.specs.Declarations as d
-use Rattle.kt_tree.specs.Declarations.{TypeParameterTree, TypedParameterTree, FunctionBodyTree, FunctionTree, ConstructorParameterTree, SuperArgumentsTree, SupertypeTree, PropertyTree, MemberTree, ClassTree, InterfaceTree, ConstantTree, DeclarationTree}
+use Rattle.kt_tree.specs.Declarations.{
+  TypeParameterTree,
+  TypedParameterTree,
+  FunctionBodyTree,
+  FunctionTree,
+  ConstructorParameterTree,
+  SuperArgumentsTree,
+  SupertypeTree,
+  PropertyTree,
+  MemberTree,
+  ClassTree,
+  InterfaceTree,
+  ConstantTree,
+  DeclarationTree,
+}
 use Rattle.kt_tree.specs.Levels.{most}
 
 -- ---- names
@@ -96,7 +146,7 @@ abbrev mutual
   stage (e.not_null at a) = stage a
   stage (e.member at a safe x) = max (stage a) (name_stage x)
   stage (e.index at a b) = max (stage a) (stage b)
-  stage (e.call at f rs es) =
+  stage (e.call at f start rs es) =
       max (stage f) (max (types_stage (called_argument_stage f) (types_of rs)) (expressions_stage es))
   stage (e.if_else at a b c) = max (stage a) (max (body_stage b) (maybe_body_stage c))
   stage (e.when at a es) = max (maybe_stage a) (entries_stage es)

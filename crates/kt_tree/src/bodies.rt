@@ -36,8 +36,9 @@ pub enum ExpressionKind {
     Member(Boxed<Expression>, bool, Name),
     /// `[` `]`
     Index(Boxed<Expression>, Boxed<Expression>),
-    /// A call: what is called, the type arguments, and the arguments, of which a lambda behind the call is the last.
-    Call(Boxed<Expression>, Items<TypeReference>, Items<Expression>),
+    /// A call: what is called, the place of the first token behind it, the type arguments, and the arguments, of which
+    /// a lambda behind the call is the last.
+    Call(Boxed<Expression>, Pos, Items<TypeReference>, Items<Expression>),
     If(Boxed<Expression>, ControlStructureBody, Option<ControlStructureBody>),
     /// The subject, where there is one, and the entries.
     When(Option<Boxed<Expression>>, Items<WhenEntry>),

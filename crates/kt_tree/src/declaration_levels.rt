@@ -1,7 +1,20 @@
 //! How many levels a declaration and a file have: the most of what they hold.
 
 ghost use Rattle.kt_tree.specs.Bodies.{expression_tree};
-ghost use Rattle.kt_tree.specs.Declarations.{class_tree, constructor_parameter_tree, declaration_tree, file_tree, function_tree, interface_tree, maybe_function_body, maybe_super_arguments, member_tree, supertype_tree, type_parameter_tree, typed_parameter_tree};
+ghost use Rattle.kt_tree.specs.Declarations.{
+  class_tree,
+  constructor_parameter_tree,
+  declaration_tree,
+  file_tree,
+  function_tree,
+  interface_tree,
+  maybe_function_body,
+  maybe_super_arguments,
+  member_tree,
+  supertype_tree,
+  type_parameter_tree,
+  typed_parameter_tree,
+};
 ghost use Rattle.kt_tree.specs.Levels as spec;
 ghost use Rattle.kt_tree.specs.Levels.{counted, most};
 ghost use Rattle.std.specs.Prelude.{◌≡◌, map};

@@ -1,6 +1,17 @@
 //! The stage of declarations and of a file: the greatest of what they hold.
 
-ghost use Rattle.kt_tree.specs.Declarations.{class_tree, constructor_parameter_tree, declaration_tree, file_tree, function_tree, interface_tree, member_tree, supertype_tree, type_parameter_tree, typed_parameter_tree};
+ghost use Rattle.kt_tree.specs.Declarations.{
+  class_tree,
+  constructor_parameter_tree,
+  declaration_tree,
+  file_tree,
+  function_tree,
+  interface_tree,
+  member_tree,
+  supertype_tree,
+  type_parameter_tree,
+  typed_parameter_tree,
+};
 ghost use Rattle.kt_tree.specs.Levels.{most};
 ghost use Rattle.kt_tree.specs.Stages as spec;
 ghost use Rattle.std.specs.Prelude.{◌≡◌, map};

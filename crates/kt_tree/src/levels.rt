@@ -4,7 +4,21 @@
 //! blocks and lists of statements are no level of their own, and parentheses are one. A type is at the level of what it
 //! belongs to, and each type in it is one below. A tree of more levels than a `u32` counts is said to have `u32::MAX`.
 
-ghost use Rattle.kt_tree.specs.Bodies.{expression_tree, statement_tree, block_tree, body_tree, part_tree, condition_tree, entry_tree, catch_tree, expressions_of, parts_of, conditions_of, entries_of, catches_of};
+ghost use Rattle.kt_tree.specs.Bodies.{
+  expression_tree,
+  statement_tree,
+  block_tree,
+  body_tree,
+  part_tree,
+  condition_tree,
+  entry_tree,
+  catch_tree,
+  expressions_of,
+  parts_of,
+  conditions_of,
+  entries_of,
+  catches_of,
+};
 ghost use Rattle.kt_tree.specs.Bodies.{parameter_tree, lambda_tree};
 ghost use Rattle.kt_tree.specs.Levels as spec;
 ghost use Rattle.kt_tree.specs.Levels.{counted, most};
@@ -134,7 +148,7 @@ impl Expression {
             | ExpressionKind::Cast(value, _, written) => {
                 value.get().levels().saturating_add(1).max(written.levels())
             }
-            ExpressionKind::Call(called, types, arguments) => {
+            ExpressionKind::Call(called, _, types, arguments) => {
                 let callee = below_call(called.get(), called.get().levels());
                 let held = callee.max(expressions_levels(arguments.as_slice()));
                 held.saturating_add(1)

@@ -27,8 +27,3 @@ pub use declarations::{
 };
 pub use tokens::{Keyword, Number, Sign, SoftKeyword, Token, TokenKind};
 pub use types::TypeReference;
-
-#[cfg(test)]
-mod stage_tests;
-#[cfg(test)]
-mod tests;

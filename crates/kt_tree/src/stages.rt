@@ -3,7 +3,21 @@
 //! A node has a stage by itself, or 0 where it asks for none, and a tree has the greatest of its nodes'. Stage 9 has
 //! the coroutines, 8 lambdas and exceptions, 4 classes and generics. A file has at least stage 3.
 
-ghost use Rattle.kt_tree.specs.Bodies.{expression_tree, statement_tree, block_tree, body_tree, part_tree, condition_tree, entry_tree, catch_tree, expressions_of, parts_of, conditions_of, entries_of, catches_of};
+ghost use Rattle.kt_tree.specs.Bodies.{
+  expression_tree,
+  statement_tree,
+  block_tree,
+  body_tree,
+  part_tree,
+  condition_tree,
+  entry_tree,
+  catch_tree,
+  expressions_of,
+  parts_of,
+  conditions_of,
+  entries_of,
+  catches_of,
+};
 ghost use Rattle.kt_tree.specs.Bodies.{parameter_tree};
 ghost use Rattle.kt_tree.specs.Levels.{most};
 ghost use Rattle.kt_tree.specs.Stages as spec;
@@ -170,7 +184,7 @@ impl Expression {
             }
             ExpressionKind::TypeCheck(value, _, written)
             | ExpressionKind::Cast(value, _, written) => value.get().stage().max(written.stage()),
-            ExpressionKind::Call(called, types, arguments) => {
+            ExpressionKind::Call(called, _, types, arguments) => {
                 let types = types_stage(called_argument_stage(called.get()), types.as_slice());
                 let arguments = expressions_stage(arguments.as_slice());
                 called.get().stage().max(types.max(arguments))

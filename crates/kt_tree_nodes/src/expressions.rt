@@ -228,22 +228,24 @@ pub fn index(alloc: Global, value: Expression, index: Expression) -> Result<Expr
     })
 }
 
-/// `called types? '(' arguments ')'`, a lambda behind the call being the last of the arguments
+/// `called types? '(' arguments ')'`, where `types` or `(` stand at `start`, a lambda behind the call being the last of the
+/// arguments
 pub fn call(
     alloc: Global,
     called: Expression,
+    start: Pos,
     types: Items<TypeReference>,
     arguments: Items<Expression>,
 ) -> Result<Expression, NoMemory>
     ensures { IfOk result
-        (λ e. expression_tree e ≡ tree.call (place (expression_tree called)) (expression_tree called)
+        (λ e. expression_tree e ≡ tree.call (place (expression_tree called)) (expression_tree called) start
         (map type_tree types) (expressions_of (map expression_tree arguments))) }
 {
     let at = place_of(&called);
     let called = Boxed::new(alloc, called)?;
     Ok(Expression {
         at,
-        kind: ExpressionKind::Call(called, types, arguments),
+        kind: ExpressionKind::Call(called, start, types, arguments),
     })
 }
 

@@ -9,6 +9,4 @@ pub mod declarations;
 pub mod expressions;
 pub mod statements;
 pub mod strings;
-#[cfg(test)]
-mod tests;
 pub mod types;

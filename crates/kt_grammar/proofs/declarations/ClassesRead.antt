@@ -11,7 +11,18 @@ use Rattle.kt_tree.specs.declared.tokens.SoftKeyword.TheVariants as soft
 use Rattle.kt_tree.specs.declared.tokens.Token.{Token}
 use Rattle.kt_tree.specs.declared.declarations.ClassModifiers.{ClassModifiers}
 use Rattle.kt_tree.specs.Types.{named, types_of}
-use Rattle.kt_tree.specs.Tokens.{is_identifier, is_keyword, is_new_line, is_sign, kind_is_identifier, kind_is_new_line, kind_is_sign, same_sign, same_keyword, is_soft_keyword}
+use Rattle.kt_tree.specs.Tokens.{
+  is_identifier,
+  is_keyword,
+  is_new_line,
+  is_sign,
+  kind_is_identifier,
+  kind_is_new_line,
+  kind_is_sign,
+  same_sign,
+  same_keyword,
+  is_soft_keyword,
+}
 use Rattle.kt_tree.specs.Declarations as d
 use Rattle.kt_tree.specs.Declarations.{ClassTree, InterfaceTree, PropertyTree, SuperArgumentsTree}
 use Rattle.kt_grammar_parsers.specs.Parsers.{Parser, behind, first, pure, some_levels, ◌>>=◌}
@@ -20,26 +31,117 @@ use Rattle.kt_grammar.specs.Terminals.{is_separator, kind_is_end, name_of, means
 use Rattle.kt_grammar.specs.Words.{Directly, IsPast, IsMeant, MaybeCommaList}
 use Rattle.kt_grammar.specs.Types.{IsNamedType, IsType}
 use Rattle.kt_grammar.specs.Statements.{phrases}
-use Rattle.kt_grammar.specs.Declarations.{IsClassWord, IsMembers, IsSupertypes, IsTypeArgument, IsConstructor, IsFunction, IsMember, IsSupertype, IsTypeParameters, IsTypedParameter, arguments_at, in_class, in_interface, most_levels, outside}
+use Rattle.kt_grammar.specs.Declarations.{
+  IsClassWord,
+  IsMembers,
+  IsSupertypes,
+  IsTypeArgument,
+  IsConstructor,
+  IsFunction,
+  IsMember,
+  IsSupertype,
+  IsTypeParameters,
+  IsTypedParameter,
+  arguments_at,
+  in_class,
+  in_interface,
+  most_levels,
+  outside,
+}
 use Rattle.kt_grammar.specs.Readers.{type_parser, maybe_commas, meant}
 use Rattle.kt_grammar.specs.StatementParser.{parsers}
-use Rattle.kt_grammar.specs.DeclarationParser.{class_word, members, parent, supertypes, class_rest, interface_rest, member, property_rest, supertype}
+use Rattle.kt_grammar.specs.DeclarationParser.{
+  class_word,
+  members,
+  parent,
+  supertypes,
+  class_rest,
+  interface_rest,
+  member,
+  property_rest,
+  supertype,
+}
 use Rattle.kt_grammar_parsers.proofs.Optional.{not_reads, seq_begins, token_begins}
-use Rattle.kt_grammar.proofs.types.TypesRead.{a_name, a_sign, named_type_correct, type_phrase, types_correct, no_arguments}
+use Rattle.kt_grammar.proofs.types.TypesRead.{
+  a_name,
+  a_sign,
+  named_type_correct,
+  type_phrase,
+  types_correct,
+  no_arguments,
+}
 use Rattle.kt_grammar.proofs.tokens.Closing.{kind_end, kind_sign}
-use Rattle.kt_grammar.proofs.parts.Sequences.{Anything, Closes, Part, made, not_past, part_of, past, then, where_part, any_part}
+use Rattle.kt_grammar.proofs.parts.Sequences.{
+  Anything,
+  Closes,
+  Part,
+  made,
+  not_past,
+  part_of,
+  past,
+  then,
+  where_part,
+  any_part,
+}
 use Rattle.kt_grammar.proofs.parts.Choices.{either_part, past_then, same_part, seq_left, seq_right}
-use Rattle.kt_grammar.proofs.tokens.Begins.{Begins, seq_begins_with, either_begins_with, first_of_front, first_yes, of_kind}
+use Rattle.kt_grammar.proofs.tokens.Begins.{
+  Begins,
+  seq_begins_with,
+  either_begins_with,
+  first_of_front,
+  first_yes,
+  of_kind,
+}
 use Rattle.kt_grammar.proofs.tokens.Meanings.{closes_halts, meant_part}
 use Rattle.kt_grammar.proofs.parts.Optionals.{on_where_part}
 use Rattle.kt_grammar.proofs.tokens.Distinct.{kind_keyword, means_none, means_some, no_keyword, no_meaning}
 use Rattle.kt_grammar.proofs.tokens.Keywords.{or_keyword, keyword_or}
-use Rattle.kt_grammar.proofs.tokens.Witnesses.{begins_no_line, closes_at, sign_is, sign_part, a_keyword, sign_then, parenthesis_ends, brace_ends, name_begins}
-use Rattle.kt_grammar.proofs.tokens.Following.{EndsType, Next, NoNext, ends_type, goes_on_type, next_is, stops_part, sign_no_line}
+use Rattle.kt_grammar.proofs.tokens.Witnesses.{
+  begins_no_line,
+  closes_at,
+  sign_is,
+  sign_part,
+  a_keyword,
+  sign_then,
+  parenthesis_ends,
+  brace_ends,
+  name_begins,
+}
+use Rattle.kt_grammar.proofs.tokens.Following.{
+  EndsType,
+  Next,
+  NoNext,
+  ends_type,
+  goes_on_type,
+  next_is,
+  stops_part,
+  sign_no_line,
+}
 use Rattle.kt_grammar.proofs.parts.Enclosed.{as_read, items_until_part, several_part, in_parentheses_part}
-use Rattle.kt_grammar.proofs.declarations.ModifiersRead.{start, Distinct, Modifier, keyword_behind, word_begins, word_part, Unlike, word_unlike}
-use Rattle.kt_grammar.proofs.declarations.ParametersRead.{constructor_parameters_part, name_then, type_parameters_part, typed_parameter_part}
-use Rattle.kt_grammar.proofs.declarations.FunctionsRead.{Expressions, Statements, expression_no_line, expression_part, function_begins, function_part}
+use Rattle.kt_grammar.proofs.declarations.ModifiersRead.{
+  start,
+  Distinct,
+  Modifier,
+  keyword_behind,
+  word_begins,
+  word_part,
+  Unlike,
+  word_unlike,
+}
+use Rattle.kt_grammar.proofs.declarations.ParametersRead.{
+  constructor_parameters_part,
+  name_then,
+  type_parameters_part,
+  typed_parameter_part,
+}
+use Rattle.kt_grammar.proofs.declarations.FunctionsRead.{
+  Expressions,
+  Statements,
+  expression_no_line,
+  expression_part,
+  function_begins,
+  function_part,
+}
 
 -- ---- what the end of a file ends
 

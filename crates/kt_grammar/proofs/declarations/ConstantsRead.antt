@@ -1,5 +1,26 @@
 -- Enums and constants are read exactly.
-use Rattle.std.proofs.Common.{◌≡◌, Bool, true, false, List, [], ◌∷◌, ◌++◌, None, refl, ap, ◌∙◌, inl, inr, ◌⊎◌, ◌<◌, Some, arith, length, length-append}
+use Rattle.std.proofs.Common.{
+  ◌≡◌,
+  Bool,
+  true,
+  false,
+  List,
+  [],
+  ◌∷◌,
+  ◌++◌,
+  None,
+  refl,
+  ap,
+  ◌∙◌,
+  inl,
+  inr,
+  ◌⊎◌,
+  ◌<◌,
+  Some,
+  arith,
+  length,
+  length-append,
+}
 use Rattle.kt_tree.specs.declared.tokens.TokenKind.{TokenKind}
 use Rattle.kt_tree.specs.declared.tokens.TokenKind.TheVariants as kind
 use Rattle.kt_tree.specs.declared.tokens.Sign.TheVariants as sign
@@ -13,10 +34,38 @@ use Rattle.kt_tree.specs.declared.declarations.ConstantValue.{ConstantValue}
 use Rattle.kt_tree.specs.declared.declarations.ConstantValue.TheVariants as value
 use Rattle.kt_tree.specs.Declarations as d
 use Rattle.kt_tree.specs.Declarations.{ConstantTree, DeclarationTree}
-use Rattle.kt_tree.specs.Tokens.{is_identifier, is_keyword, is_new_line, is_sign, kind_is_new_line, kind_is_sign, same_sign}
+use Rattle.kt_tree.specs.Tokens.{
+  is_identifier,
+  is_keyword,
+  is_new_line,
+  is_sign,
+  kind_is_new_line,
+  kind_is_sign,
+  same_sign,
+}
 use Rattle.kt_grammar_parsers.specs.Parsers.{◌>>=◌, first, on, pure, repeat}
-use Rattle.kt_grammar_parsers.specs.Phrases.{Either, FirstOf, IsNothing, IsSkipped, IsToken, Loop, MoreTurn, NotReads, Seq}
-use Rattle.kt_grammar.specs.Terminals.{is_close_quote, is_open_quote, kind_is_close_quote, kind_is_open_quote, kind_literal, kind_text, literal_of, name_of, text_of}
+use Rattle.kt_grammar_parsers.specs.Phrases.{
+  Either,
+  FirstOf,
+  IsNothing,
+  IsSkipped,
+  IsToken,
+  Loop,
+  MoreTurn,
+  NotReads,
+  Seq,
+}
+use Rattle.kt_grammar.specs.Terminals.{
+  is_close_quote,
+  is_open_quote,
+  kind_is_close_quote,
+  kind_is_open_quote,
+  kind_literal,
+  kind_text,
+  literal_of,
+  name_of,
+  text_of,
+}
 use Rattle.kt_grammar.specs.Words.{IsMeant, IsPast, Maybe, Several}
 use Rattle.kt_grammar.specs.Types.{IsType}
 use Rattle.kt_grammar.specs.Declarations.{IsConstantLiteral, IsConstantText, IsEnumEntry, TextTurn, most_levels}
@@ -27,11 +76,29 @@ use Rattle.kt_grammar.proofs.types.TypesRead.{a_sign}
 use Rattle.kt_grammar.proofs.tokens.Closing.{kind_sign}
 use Rattle.kt_grammar.proofs.parts.Sequences.{Anything, Part, any_part, made, not_past, one, past, then}
 use Rattle.kt_grammar.proofs.parts.Choices.{either_part, on_part, past_then}
-use Rattle.kt_grammar.proofs.tokens.Begins.{Begins, begins_no, either_begins_with, first_of_front, first_yes, of_kind, seq_begins_with, token_begins_with}
+use Rattle.kt_grammar.proofs.tokens.Begins.{
+  Begins,
+  begins_no,
+  either_begins_with,
+  first_of_front,
+  first_yes,
+  of_kind,
+  seq_begins_with,
+  token_begins_with,
+}
 use Rattle.kt_grammar.proofs.tokens.Meanings.{meant_part}
 use Rattle.kt_grammar.proofs.parts.Optionals.{maybe_part, on_where_part}
 use Rattle.kt_grammar.proofs.tokens.Distinct.{no_meaning}
-use Rattle.kt_grammar.proofs.tokens.Witnesses.{begins_no_line, a_keyword, keyword_part, sign_is, sign_part, sign_then, name_no_line, sign_past_then}
+use Rattle.kt_grammar.proofs.tokens.Witnesses.{
+  begins_no_line,
+  a_keyword,
+  keyword_part,
+  sign_is,
+  sign_part,
+  sign_then,
+  name_no_line,
+  sign_past_then,
+}
 use Rattle.kt_grammar.proofs.tokens.Following.{EndsType, Next, at_sign_no, most_type_part, no_colon, sign_no_line}
 use Rattle.kt_grammar.proofs.parts.Enclosed.{ended_part, several_part, swap_part}
 use Rattle.kt_grammar.proofs.declarations.ParametersRead.{name_then}

@@ -4,7 +4,14 @@ use Rattle.kt_grammar_parsers.specs.Parsers.{cursor}
 use Rattle.kt_grammar.specs.Declarations.{OneTree, most_levels}
 use Rattle.kt_grammar.specs.Laws.{FileHasLevels, FileIsRead, FileIsRefused, FileReadsFiles}
 use Rattle.kt_grammar.proofs.declarations.FunctionsRead.{Expressions, Statements}
-use Rattle.kt_grammar.proofs.declarations.FilesRead.{expressions_are_read, file_is_read_over, file_is_refused_over, one_tree_over, read_is_file_over, statements_are_read}
+use Rattle.kt_grammar.proofs.declarations.FilesRead.{
+  expressions_are_read,
+  file_is_read_over,
+  file_is_refused_over,
+  one_tree_over,
+  read_is_file_over,
+  statements_are_read,
+}
 use Rattle.kt_grammar.proofs.statements.LevelsRead.{levels_read}
 use Rattle.kt_grammar.proofs.levels.FileLevels.{file_fits}
 

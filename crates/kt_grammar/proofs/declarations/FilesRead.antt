@@ -1,5 +1,26 @@
 -- Files are read exactly, over expressions and statements.
-use Rattle.std.proofs.Common.{◌≡◌, Bool, true, false, List, [], ◌∷◌, ◌++◌, refl, ap, ◌∙◌, inl, inr, ◌-◌, Err, Ok, append_assoc, length, subst, sym}
+use Rattle.std.proofs.Common.{
+  ◌≡◌,
+  Bool,
+  true,
+  false,
+  List,
+  [],
+  ◌∷◌,
+  ◌++◌,
+  refl,
+  ap,
+  ◌∙◌,
+  inl,
+  inr,
+  ◌-◌,
+  Err,
+  Ok,
+  append_assoc,
+  length,
+  subst,
+  sym,
+}
 use Rattle.kt_tree.specs.declared.tokens.TokenKind.{TokenKind}
 use Rattle.kt_tree.specs.declared.tokens.TokenKind.TheVariants as kind
 use Rattle.kt_tree.specs.declared.tokens.Keyword.TheVariants as word
@@ -8,12 +29,31 @@ use Rattle.kt_tree.specs.declared.tokens.SoftKeyword.TheVariants as soft
 use Rattle.kt_tree.specs.declared.tokens.Token.{Token}
 use Rattle.kt_tree.specs.Declarations as d
 use Rattle.kt_tree.specs.Declarations.{DeclarationTree}
-use Rattle.kt_tree.specs.Tokens.{is_identifier, is_keyword, is_soft_keyword, kind_is_identifier, kind_is_keyword, same_keyword, same_sign}
+use Rattle.kt_tree.specs.Tokens.{
+  is_identifier,
+  is_keyword,
+  is_soft_keyword,
+  kind_is_identifier,
+  kind_is_keyword,
+  same_keyword,
+  same_sign,
+}
 use Rattle.kt_grammar_parsers.specs.Parsers.{◌>>=◌, Cursor, attempt, behind, cursor, first, pure, some_levels}
 use Rattle.kt_grammar_parsers.specs.Phrases.{Either, IsNothing, IsToken, NotReads, Seq}
 use Rattle.kt_grammar.specs.Terminals.{kind_is_end}
 use Rattle.kt_grammar.specs.Statements.{phrases}
-use Rattle.kt_grammar.specs.Declarations.{IsClassWord, IsDeclaration, IsFile, IsFileOf, IsFileRefusedAt, IsFunction, OneTree, at_top, most_levels, outside}
+use Rattle.kt_grammar.specs.Declarations.{
+  IsClassWord,
+  IsDeclaration,
+  IsFile,
+  IsFileOf,
+  IsFileRefusedAt,
+  IsFunction,
+  OneTree,
+  at_top,
+  most_levels,
+  outside,
+}
 use Rattle.kt_grammar.specs.StatementParser.{parsers}
 use Rattle.kt_grammar.specs.DeclarationParser.{class_rest, class_word, declaration_parser, file_parser, function_parser}
 use Rattle.kt_grammar_parsers.proofs.Correct.{Correct}
@@ -22,7 +62,17 @@ use Rattle.kt_grammar_parsers.proofs.Whole.{one_value, read_is_sentence, refused
 use Rattle.kt_grammar.proofs.tokens.Closing.{goes_on, kind_end}
 use Rattle.kt_grammar.proofs.parts.Sequences.{Anything, Closes, Part, made, phrase_of, then}
 use Rattle.kt_grammar.proofs.parts.Choices.{either_part, on_part, same_part, seq_left, seq_right}
-use Rattle.kt_grammar.proofs.tokens.Begins.{Begins, either_begins_with, first_no, first_yes, of_kind, seq_begins_with, token_begins_with, kind_begins_expression, kind_begins_statement}
+use Rattle.kt_grammar.proofs.tokens.Begins.{
+  Begins,
+  either_begins_with,
+  first_no,
+  first_yes,
+  of_kind,
+  seq_begins_with,
+  token_begins_with,
+  kind_begins_expression,
+  kind_begins_statement,
+}
 use Rattle.kt_grammar.proofs.parts.Below.{IsExpressionRead, ReadsBelow}
 use Rattle.kt_grammar.proofs.tokens.Distinct.{no_keyword, token_no}
 use Rattle.kt_grammar.proofs.tokens.Keywords.{keyword_or, or_keyword, or_left, or_right}
@@ -30,8 +80,27 @@ use Rattle.kt_grammar.proofs.tokens.Witnesses.{a_keyword, a_soft_keyword, keywor
 use Rattle.kt_grammar.proofs.tokens.Following.{both_ways}
 use Rattle.kt_grammar.proofs.parts.Enclosed.{as_read, items_until_part}
 use Rattle.kt_grammar.proofs.declarations.ModifiersRead.{Unlike, soft_apart, soft_is_identifier}
-use Rattle.kt_grammar.proofs.declarations.FunctionsRead.{Expressions, Statements, fun_behind, fun_unlike, function_begins, function_modifiers, function_part}
-use Rattle.kt_grammar.proofs.declarations.ClassesRead.{AtEnd, IsClassRest, IsInterfaceRest, class_behind, class_modifiers, class_part, class_unlike, class_word_begins, class_word_part, interface_part}
+use Rattle.kt_grammar.proofs.declarations.FunctionsRead.{
+  Expressions,
+  Statements,
+  fun_behind,
+  fun_unlike,
+  function_begins,
+  function_modifiers,
+  function_part,
+}
+use Rattle.kt_grammar.proofs.declarations.ClassesRead.{
+  AtEnd,
+  IsClassRest,
+  IsInterfaceRest,
+  class_behind,
+  class_modifiers,
+  class_part,
+  class_unlike,
+  class_word_begins,
+  class_word_part,
+  interface_part,
+}
 use Rattle.kt_grammar.proofs.declarations.ConstantsRead.{IsConstantRest, IsEnumRest, constant_part, enum_part}
 
 -- what holds of the tokens from a phrase on, where it holds from its first part on

@@ -11,14 +11,33 @@ use Rattle.kt_tree.specs.declared.declarations.FunctionModifiers.{FunctionModifi
 use Rattle.kt_tree.specs.Declarations as d
 use Rattle.kt_tree.specs.Bodies.{ExpressionTree}
 use Rattle.kt_tree.specs.Declarations.{FunctionBodyTree}
-use Rattle.kt_tree.specs.Tokens.{is_new_line, is_sign, kind_is_identifier, kind_is_new_line, same_sign, is_identifier, is_keyword, is_soft_keyword}
+use Rattle.kt_tree.specs.Tokens.{
+  is_new_line,
+  is_sign,
+  kind_is_identifier,
+  kind_is_new_line,
+  same_sign,
+  is_identifier,
+  is_keyword,
+  is_soft_keyword,
+}
 use Rattle.kt_grammar_parsers.specs.Parsers.{◌>>=◌, ◌>>◌, first, pure, behind}
 use Rattle.kt_grammar_parsers.specs.Phrases.{If, IsNothing, IsToken, Seq}
 use Rattle.kt_grammar.specs.Terminals.{name_of}
 use Rattle.kt_grammar.specs.Words.{IsPast}
 use Rattle.kt_grammar.specs.Expressions.{IsBlock, IsBlockRest}
 use Rattle.kt_grammar.specs.Statements.{phrases}
-use Rattle.kt_grammar.specs.Declarations.{IsFun, IsFunction, IsFunctionBody, IsTypeParameters, Scope, has_body, may_be_generic, most_levels, outside}
+use Rattle.kt_grammar.specs.Declarations.{
+  IsFun,
+  IsFunction,
+  IsFunctionBody,
+  IsTypeParameters,
+  Scope,
+  has_body,
+  may_be_generic,
+  most_levels,
+  outside,
+}
 use Rattle.kt_grammar.specs.Readers.{lines}
 use Rattle.kt_grammar.specs.ExpressionParser.{block_of}
 use Rattle.kt_grammar.specs.StatementParser.{parsers}
@@ -28,7 +47,14 @@ use Rattle.kt_grammar_parsers.proofs.Optional.{seq_begins}
 use Rattle.kt_grammar.proofs.types.TypesRead.{a_sign}
 use Rattle.kt_grammar.proofs.parts.Sequences.{Anything, Part, Closes, then, any_part, made}
 use Rattle.kt_grammar.proofs.parts.Choices.{past_then}
-use Rattle.kt_grammar.proofs.tokens.Begins.{Begins, first_no, kind_begins_expression, kind_begins_statement, of_kind, seq_begins_with}
+use Rattle.kt_grammar.proofs.tokens.Begins.{
+  Begins,
+  first_no,
+  kind_begins_expression,
+  kind_begins_statement,
+  of_kind,
+  seq_begins_with,
+}
 use Rattle.kt_grammar.proofs.parts.Below.{IsExpressionRead}
 use Rattle.kt_grammar.proofs.parts.Optionals.{maybe_part}
 use Rattle.kt_grammar.proofs.tokens.Distinct.{no_sign, token_no}
@@ -40,7 +66,16 @@ use Rattle.kt_grammar.proofs.expressions.BlocksRead.{block_rest_part}
 use Rattle.kt_grammar.proofs.statements.LoopsRead.{block_no_line}
 use Rattle.kt_grammar.proofs.tokens.Following.{EndsType, Next, closes_type, most_type_part, no_colon}
 use Rattle.kt_grammar.proofs.parts.Enclosed.{if_false_part, if_true_part, past_no, swap_part}
-use Rattle.kt_grammar.proofs.declarations.ModifiersRead.{start, Distinct, Modifier, word_begins, word_part, Unlike, keyword_behind, word_unlike}
+use Rattle.kt_grammar.proofs.declarations.ModifiersRead.{
+  start,
+  Distinct,
+  Modifier,
+  word_begins,
+  word_part,
+  Unlike,
+  keyword_behind,
+  word_unlike,
+}
 use Rattle.kt_grammar.proofs.declarations.ParametersRead.{name_then, parameters_part, type_parameters_part}
 
 -- the modifiers of a function

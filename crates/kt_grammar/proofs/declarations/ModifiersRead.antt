@@ -1,5 +1,29 @@
 -- Modifiers and the word behind them are read exactly.
-use Rattle.std.proofs.Common.{◌≡◌, ◌==◌, ◌<◌, ℕ, Bool, true, false, not, List, [], ◌∷◌, ◌++◌, length, None, refl, sym, ap, ◌∙◌, append_assoc, arith, inl, inr, ◌⊎◌}
+use Rattle.std.proofs.Common.{
+  ◌≡◌,
+  ◌==◌,
+  ◌<◌,
+  ℕ,
+  Bool,
+  true,
+  false,
+  not,
+  List,
+  [],
+  ◌∷◌,
+  ◌++◌,
+  length,
+  None,
+  refl,
+  sym,
+  ap,
+  ◌∙◌,
+  append_assoc,
+  arith,
+  inl,
+  inr,
+  ◌⊎◌,
+}
 use Rattle.std.specs.Cmp.Lexicographic.{pointwise, same_text, other_text}
 use Rattle.kt_base.specs.declared.refusals.Pos.{Pos}
 use Rattle.kt_tree.specs.declared.tokens.Token.{Token}
@@ -7,7 +31,15 @@ use Rattle.kt_tree.specs.declared.tokens.TokenKind.{TokenKind}
 use Rattle.kt_tree.specs.declared.tokens.TokenKind.TheVariants as kind
 use Rattle.kt_tree.specs.declared.tokens.Keyword.{Keyword}
 use Rattle.kt_tree.specs.declared.tokens.SoftKeyword.{SoftKeyword}
-use Rattle.kt_tree.specs.Tokens.{spelling, kind_is_soft_keyword, kind_is_identifier, kind_is_keyword, is_soft_keyword, is_identifier, is_keyword}
+use Rattle.kt_tree.specs.Tokens.{
+  spelling,
+  kind_is_soft_keyword,
+  kind_is_identifier,
+  kind_is_keyword,
+  is_soft_keyword,
+  is_identifier,
+  is_keyword,
+}
 use Rattle.kt_grammar_parsers.specs.Parsers.{Parser, first, behind, ◌>>=◌, pure, token, repeat}
 use Rattle.kt_grammar_parsers.specs.Phrases.{IsNothing, IsToken, Seq, Either, If, Loop, ends, turns}
 use Rattle.kt_grammar.specs.Words.{Empty}

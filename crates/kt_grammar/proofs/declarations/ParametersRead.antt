@@ -7,14 +7,35 @@ use Rattle.kt_tree.specs.declared.tokens.Sign.TheVariants as sign
 use Rattle.kt_tree.specs.declared.tokens.Keyword.TheVariants as word
 use Rattle.kt_tree.specs.declared.declarations.ConstructorParameterKind.{ConstructorParameterKind}
 use Rattle.kt_tree.specs.declared.declarations.ConstructorParameterKind.TheVariants as parameter
-use Rattle.kt_tree.specs.Tokens.{same_sign, same_keyword, kind_is_sign, kind_is_identifier, is_sign, is_identifier, is_keyword}
+use Rattle.kt_tree.specs.Tokens.{
+  same_sign,
+  same_keyword,
+  kind_is_sign,
+  kind_is_identifier,
+  is_sign,
+  is_identifier,
+  is_keyword,
+}
 use Rattle.kt_grammar_parsers.specs.Parsers.{Parser, first, comma_list, ◌>>=◌, attempt, pure, token}
 use Rattle.kt_grammar_parsers.specs.Phrases.{IsToken, CommaList, FirstOf, IsNothing, Seq}
 use Rattle.kt_grammar.specs.Terminals.{name_of, means, nothing}
 use Rattle.kt_grammar.specs.Words.{IsMeant, MaybeCommaList}
-use Rattle.kt_grammar.specs.Declarations.{IsTypeParameter, IsTypeParameters, IsTypedParameter, IsConstructorParameter, IsConstructor, kind_of}
+use Rattle.kt_grammar.specs.Declarations.{
+  IsTypeParameter,
+  IsTypeParameters,
+  IsTypedParameter,
+  IsConstructorParameter,
+  IsConstructor,
+  kind_of,
+}
 use Rattle.kt_grammar.specs.Readers.{meant, maybe_commas}
-use Rattle.kt_grammar.specs.DeclarationParser.{type_parameter, type_parameters, typed_parameter, constructor_parameter, constructor_parameters}
+use Rattle.kt_grammar.specs.DeclarationParser.{
+  type_parameter,
+  type_parameters,
+  typed_parameter,
+  constructor_parameter,
+  constructor_parameters,
+}
 use Rattle.kt_grammar.proofs.tokens.Apart.{signs_apart}
 use Rattle.kt_grammar_parsers.proofs.Forms.{comma_list_correct, comma_list_phrase}
 use Rattle.kt_grammar.proofs.types.TypesRead.{a_sign, a_name}
@@ -24,7 +45,15 @@ use Rattle.kt_grammar.proofs.tokens.Meanings.{meant_part}
 use Rattle.kt_grammar.proofs.parts.Optionals.{on_where_part, maybe_part}
 use Rattle.kt_grammar.proofs.tokens.Distinct.{no_meaning, kind_keyword, means_none, means_some, no_keyword}
 use Rattle.kt_grammar.proofs.tokens.Witnesses.{a_keyword, sign_is, sign_then, name_begins, name_part}
-use Rattle.kt_grammar.proofs.tokens.Following.{Next, EndsType, at_sign_no, no_colon, stops_part, goes_on_type, most_type_part}
+use Rattle.kt_grammar.proofs.tokens.Following.{
+  Next,
+  EndsType,
+  at_sign_no,
+  no_colon,
+  stops_part,
+  goes_on_type,
+  most_type_part,
+}
 use Rattle.kt_grammar.proofs.parts.Enclosed.{as_read, in_parentheses_part}
 
 -- a name, and what goes on with it

@@ -23,10 +23,32 @@ use Rattle.kt_grammar.proofs.parts.Choices.{past_then, on_part}
 use Rattle.kt_grammar.proofs.parts.Optionals.{on_room_part}
 use Rattle.kt_grammar.proofs.tokens.Meanings.{closes_halts, halts_no}
 use Rattle.kt_grammar.proofs.tokens.Distinct.{no_sign, no_new_line}
-use Rattle.kt_grammar.proofs.tokens.Begins.{kind_begins_statement, of_kind, Begins, first_no, first_yes, begins_not_read, seq_begins_with, either_begins_with}
+use Rattle.kt_grammar.proofs.tokens.Begins.{
+  kind_begins_statement,
+  of_kind,
+  Begins,
+  first_no,
+  first_yes,
+  begins_not_read,
+  seq_begins_with,
+  either_begins_with,
+}
 use Rattle.kt_grammar.proofs.parts.Below.{Halts, ReadsBelow}
 use Rattle.kt_grammar.proofs.parts.Left.{read_part}
-use Rattle.kt_grammar.proofs.tokens.Witnesses.{a_keyword, keyword_is, sign_is, sign_then, close_then, sign_past_then, sign_begins, keyword_begins, begins_no_sign, begins_no_line, at_sign, parenthesis_ends}
+use Rattle.kt_grammar.proofs.tokens.Witnesses.{
+  a_keyword,
+  keyword_is,
+  sign_is,
+  sign_then,
+  close_then,
+  sign_past_then,
+  sign_begins,
+  keyword_begins,
+  begins_no_sign,
+  begins_no_line,
+  at_sign,
+  parenthesis_ends,
+}
 use Rattle.kt_grammar.proofs.parts.Firsts.{past_begins, ahead_part, lines_part}
 use Rattle.kt_grammar.proofs.expressions.BlocksRead.{in_braces_part}
 

@@ -24,7 +24,15 @@ use Rattle.kt_grammar.proofs.tokens.Begins.{first_no, Begins, begins_not_read, s
 use Rattle.kt_grammar.proofs.parts.Below.{Halts, ReadsBelow}
 use Rattle.kt_grammar.proofs.parts.Choices.{same_part, attempt_if_part}
 use Rattle.kt_grammar.proofs.tokens.Distinct.{no_new_line}
-use Rattle.kt_grammar.proofs.tokens.Witnesses.{at_sign, sign_is, sign_then, sign_past_then, name_begins, name_part, sign_begins}
+use Rattle.kt_grammar.proofs.tokens.Witnesses.{
+  at_sign,
+  sign_is,
+  sign_then,
+  sign_past_then,
+  name_begins,
+  name_part,
+  sign_begins,
+}
 use Rattle.kt_grammar.proofs.parts.Firsts.{lines_part}
 use Rattle.kt_grammar.proofs.tokens.BeforeArrow.{several_before_arrow, arrow_next}
 use Rattle.kt_grammar.proofs.expressions.BlocksRead.{before_block_rest_part}

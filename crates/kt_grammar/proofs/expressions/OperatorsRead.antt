@@ -1,5 +1,26 @@
 -- Operators are read exactly, over the operands of one level less.
-use Rattle.std.proofs.Common.{◌≡◌, ℕ, suc, ◌<◌, ◌⊎◌, Bool, true, false, List, [], ◌∷◌, ◌++◌, Option, Some, refl, sym, ap, ◌∙◌, inl, inr}
+use Rattle.std.proofs.Common.{
+  ◌≡◌,
+  ℕ,
+  suc,
+  ◌<◌,
+  ◌⊎◌,
+  Bool,
+  true,
+  false,
+  List,
+  [],
+  ◌∷◌,
+  ◌++◌,
+  Option,
+  Some,
+  refl,
+  sym,
+  ap,
+  ◌∙◌,
+  inl,
+  inr,
+}
 use Rattle.std.specs.Prelude.{nat_lt}
 use Rattle.kt_base.specs.declared.refusals.Pos.{Pos}
 use Rattle.kt_tree.specs.declared.tokens.Token.{Token}
@@ -16,23 +37,72 @@ use Rattle.kt_tree.specs.Types.{TypeTree}
 use Rattle.kt_tree.specs.Levels.{levels}
 use Rattle.kt_grammar_parsers.specs.Parsers.{Parser, first, ◌>>=◌, ◌>>◌, pure, attempt_if, repeat, chain}
 use Rattle.kt_grammar_parsers.specs.Phrases.{IsNothing, Seq, Loop, WhereRoom}
-use Rattle.kt_grammar.specs.Terminals.{Meaning, disjunction_of, conjunction_of, equality_of, comparison_of, elvis_of, infix_of, additive_of, multiplicative_of, type_check_of, cast_of}
+use Rattle.kt_grammar.specs.Terminals.{
+  Meaning,
+  disjunction_of,
+  conjunction_of,
+  equality_of,
+  comparison_of,
+  elvis_of,
+  infix_of,
+  additive_of,
+  multiplicative_of,
+  type_check_of,
+  cast_of,
+}
 use Rattle.kt_grammar.specs.Levels.{Phrases, place}
 use Rattle.kt_grammar.specs.declared.context.Context.{Context}
 use Rattle.kt_grammar.specs.Types.{IsType}
 use Rattle.kt_grammar.specs.Words.{IsMeant, IsLines, IsPast}
 use Rattle.kt_grammar_parsers.proofs.Optional.{seq_begins}
 use Rattle.kt_grammar.specs.Expressions as x
-use Rattle.kt_grammar.specs.Expressions.{IsPrefixed, IsCast, IsMultiplicative, IsAdditive, IsInfix, IsElvis, IsTest, IsComparison, IsEquality, IsConjunction, IsDisjunction}
+use Rattle.kt_grammar.specs.Expressions.{
+  IsPrefixed,
+  IsCast,
+  IsMultiplicative,
+  IsAdditive,
+  IsInfix,
+  IsElvis,
+  IsTest,
+  IsComparison,
+  IsEquality,
+  IsConjunction,
+  IsDisjunction,
+}
 use Rattle.kt_grammar.specs.Readers.{meant, lines, type_parser}
-use Rattle.kt_grammar.specs.ExpressionParser.{Parsers, build, prefix_parser, cast_parser, multiplicative_parser, additive_parser, infix_parser, elvis_parser, test_parser, comparison_parser, equality_parser, conjunction_parser, disjunction_parser}
+use Rattle.kt_grammar.specs.ExpressionParser.{
+  Parsers,
+  build,
+  prefix_parser,
+  cast_parser,
+  multiplicative_parser,
+  additive_parser,
+  infix_parser,
+  elvis_parser,
+  test_parser,
+  comparison_parser,
+  equality_parser,
+  conjunction_parser,
+  disjunction_parser,
+}
 use Rattle.kt_grammar.proofs.types.TypesRead.{a_sign}
 use Rattle.kt_grammar.proofs.parts.Sequences.{Part, Anything, Closes, then, past, made, room_part}
 use Rattle.kt_grammar.proofs.parts.Choices.{past_then, turns_part, turns_stop, room_stops}
 use Rattle.kt_grammar.proofs.tokens.Begins.{kind_begins_expression}
 use Rattle.kt_grammar.proofs.parts.Productions.{Production, goes}
 use Rattle.kt_grammar.proofs.types.TypeParts.{type_starts, type_part}
-use Rattle.kt_grammar.proofs.tokens.Meanings.{closes_halts, IsOperator, NothingAt, token_of, meant_part, meant_eats, meant_absent, past_meant_part, past_meant_eats, meant_past_absent}
+use Rattle.kt_grammar.proofs.tokens.Meanings.{
+  closes_halts,
+  IsOperator,
+  NothingAt,
+  token_of,
+  meant_part,
+  meant_eats,
+  meant_absent,
+  past_meant_part,
+  past_meant_eats,
+  meant_past_absent,
+}
 
 abbrev here : Pos
 here = record { line = 1; column = 1 }

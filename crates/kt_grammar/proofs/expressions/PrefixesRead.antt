@@ -1,5 +1,31 @@
 -- Prefixes are read exactly, over suffixes; and there is no operand where no level is left.
-use Rattle.std.proofs.Common.{◌≡◌, ℕ, zero, suc, ◌<◌, Bool, true, false, List, [], ◌∷◌, ◌++◌, Option, None, Some, refl, sym, ap, subst, ◌∙◌, inl, inr, ◌⊎◌, arith, ltb-true}
+use Rattle.std.proofs.Common.{
+  ◌≡◌,
+  ℕ,
+  zero,
+  suc,
+  ◌<◌,
+  Bool,
+  true,
+  false,
+  List,
+  [],
+  ◌∷◌,
+  ◌++◌,
+  Option,
+  None,
+  Some,
+  refl,
+  sym,
+  ap,
+  subst,
+  ◌∙◌,
+  inl,
+  inr,
+  ◌⊎◌,
+  arith,
+  ltb-true,
+}
 use Rattle.std.specs.Prelude.{nat_lt}
 use Rattle.kt_tree.specs.declared.tokens.Token.{Token}
 use Rattle.kt_tree.specs.declared.tokens.TokenKind.{TokenKind}
@@ -25,7 +51,15 @@ use Rattle.kt_grammar.proofs.types.TypesRead.{a_sign}
 use Rattle.kt_grammar.proofs.tokens.Closing.{kind_sign}
 use Rattle.kt_grammar.proofs.parts.Sequences.{Part, Anything, Closes, then, made}
 use Rattle.kt_grammar.proofs.parts.Choices.{either_part, other_part, attempt_if_part}
-use Rattle.kt_grammar.proofs.tokens.Begins.{of_kind, Begins, kind_begins_expression, first_of_front, first_yes, seq_begins_with, either_begins_with}
+use Rattle.kt_grammar.proofs.tokens.Begins.{
+  of_kind,
+  Begins,
+  kind_begins_expression,
+  first_of_front,
+  first_yes,
+  seq_begins_with,
+  either_begins_with,
+}
 use Rattle.kt_grammar.proofs.parts.Below.{Halts, IsExpressionRead}
 use Rattle.kt_grammar.proofs.tokens.Meanings.{meant_part}
 use Rattle.kt_grammar.proofs.tokens.Distinct.{no_sign, means_none, means_some, no_meaning}
@@ -88,7 +122,7 @@ some_level (e.cast at a safe t) h = omega (arith, h)
 some_level (e.not_null at a) h = omega (arith, h)
 some_level (e.member at a safe x) h = omega (arith, h)
 some_level (e.index at a b) h = omega (arith, h)
-some_level (e.call at f ts es) h = omega (arith, h)
+some_level (e.call at f start ts es) h = omega (arith, h)
 some_level (e.if_else at a b c) h = omega (arith, h)
 some_level (e.when at a es) h = omega (arith, h)
 some_level (e.try_catch at b cs f) h = omega (arith, h)

@@ -1,5 +1,24 @@
 -- Primaries, and what follows them, are read exactly over what has one level less.
-use Rattle.std.proofs.Common.{not, ◌≡◌, suc, Bool, true, false, List, [], ◌∷◌, ◌++◌, Option, None, Some, refl, sym, ◌∙◌, inl, inr}
+use Rattle.std.proofs.Common.{
+  not,
+  ◌≡◌,
+  suc,
+  Bool,
+  true,
+  false,
+  List,
+  [],
+  ◌∷◌,
+  ◌++◌,
+  Option,
+  None,
+  Some,
+  refl,
+  sym,
+  ◌∙◌,
+  inl,
+  inr,
+}
 use Rattle.std.specs.Prelude.{is_some}
 use Rattle.kt_tree.specs.declared.tokens.Token.{Token}
 use Rattle.kt_tree.specs.declared.tokens.TokenKind.{TokenKind}
@@ -9,12 +28,26 @@ use Rattle.kt_tree.specs.declared.tokens.Sign.TheVariants as sign
 use Rattle.kt_tree.specs.declared.tokens.Keyword.{Keyword}
 use Rattle.kt_tree.specs.declared.tokens.Keyword.TheVariants as word
 use Rattle.kt_tree.specs.declared.bodies.Literal.TheVariants as literal
-use Rattle.kt_tree.specs.Tokens.{same_sign, same_keyword, kind_is_sign, kind_is_keyword, kind_is_identifier, is_identifier}
+use Rattle.kt_tree.specs.Tokens.{
+  same_sign,
+  same_keyword,
+  kind_is_sign,
+  kind_is_keyword,
+  kind_is_identifier,
+  is_identifier,
+}
 use Rattle.kt_tree.specs.Bodies as e
 use Rattle.kt_tree.specs.Bodies.{ExpressionTree}
 use Rattle.kt_grammar_parsers.specs.Parsers.{first, some_levels, ◌>>=◌, pure, on}
 use Rattle.kt_grammar_parsers.specs.Phrases.{IsNothing, IsToken, Seq, Either, NotReads, ends}
-use Rattle.kt_grammar.specs.Terminals.{begins_expression, kind_is_open_quote, keyword_literal, kind_literal, literal_of, name_of}
+use Rattle.kt_grammar.specs.Terminals.{
+  begins_expression,
+  kind_is_open_quote,
+  keyword_literal,
+  kind_literal,
+  literal_of,
+  name_of,
+}
 use Rattle.kt_grammar.specs.Words.{IsMeant}
 use Rattle.kt_grammar.specs.Readers.{meant}
 use Rattle.kt_grammar.specs.Levels.{Phrases}
@@ -29,12 +62,29 @@ use Rattle.kt_grammar.proofs.tokens.Distinct.{no_sign, no_keyword}
 use Rattle.kt_grammar.proofs.parts.Choices.{on_part}
 use Rattle.kt_grammar.proofs.tokens.Keywords.{or_left, or_right}
 use Rattle.kt_grammar.proofs.parts.Productions.{Production, goes}
-use Rattle.kt_grammar.proofs.tokens.Begins.{kind_begins_expression, keyword_begins_expression, Begins, begins_no, begins_not_read, seq_begins_with, either_begins_with, token_begins_with}
+use Rattle.kt_grammar.proofs.tokens.Begins.{
+  kind_begins_expression,
+  keyword_begins_expression,
+  Begins,
+  begins_no,
+  begins_not_read,
+  seq_begins_with,
+  either_begins_with,
+  token_begins_with,
+}
 use Rattle.kt_grammar.proofs.parts.Below.{Halts, ReadsBelow}
 use Rattle.kt_grammar.proofs.parts.Left.{read_part, next_left}
 use Rattle.kt_grammar.proofs.tokens.Witnesses.{a_keyword, keyword_is, sign_is, close_then, parenthesis_ends}
 use Rattle.kt_grammar.proofs.parts.Firsts.{meant_begins}
-use Rattle.kt_grammar.proofs.parts.Alternatives.{or_kind, kind_or, at_kind_sign, at_kind_keyword, or_where_room, or_else, or_where}
+use Rattle.kt_grammar.proofs.parts.Alternatives.{
+  or_kind,
+  kind_or,
+  at_kind_sign,
+  at_kind_keyword,
+  or_where_room,
+  or_else,
+  or_where,
+}
 use Rattle.kt_grammar.proofs.expressions.StringsRead.{a_token, template_part}
 use Rattle.kt_grammar.proofs.expressions.LambdasRead.{lambda_rest_part}
 use Rattle.kt_grammar.proofs.expressions.ConditionalsRead.{if_part, no_if, when_part}

@@ -1,5 +1,29 @@
 -- Strings are read exactly.
-use Rattle.std.proofs.Common.{◌≡◌, ℕ, zero, suc, ◌+◌, ◌<◌, Bool, true, false, List, [], ◌∷◌, ◌++◌, length, None, Err, refl, sym, subst, ◌∙◌, arith, inl, inr}
+use Rattle.std.proofs.Common.{
+  ◌≡◌,
+  ℕ,
+  zero,
+  suc,
+  ◌+◌,
+  ◌<◌,
+  Bool,
+  true,
+  false,
+  List,
+  [],
+  ◌∷◌,
+  ◌++◌,
+  length,
+  None,
+  Err,
+  refl,
+  sym,
+  subst,
+  ◌∙◌,
+  arith,
+  inl,
+  inr,
+}
 use Rattle.std.specs.Prelude.{nat_le}
 use Rattle.std.proofs.lemmas.Bool.{leb-true}
 use Rattle.kt_base.specs.declared.refusals.Pos.{Pos}
@@ -14,7 +38,18 @@ use Rattle.kt_tree.specs.Bodies.{ExpressionTree, PartTree, parts_of}
 use Rattle.kt_tree.specs.Levels.{parts_levels}
 use Rattle.kt_grammar_parsers.specs.Parsers.{Cursor, Parser, further, some_levels, repeat}
 use Rattle.kt_grammar_parsers.specs.Phrases.{IsNothing, IsToken, Seq, Either, If, Loop, ends}
-use Rattle.kt_grammar.specs.Terminals.{is_name_part, is_this_part, is_open_template, is_close_quote, kind_is_name_part, kind_is_this_part, kind_is_open_template, kind_is_close_quote, name_of, text_of}
+use Rattle.kt_grammar.specs.Terminals.{
+  is_name_part,
+  is_this_part,
+  is_open_template,
+  is_close_quote,
+  kind_is_name_part,
+  kind_is_this_part,
+  kind_is_open_template,
+  kind_is_close_quote,
+  name_of,
+  text_of,
+}
 use Rattle.kt_grammar.specs.Words.{Empty, IsMeant, IsPast}
 use Rattle.kt_grammar.specs.Levels.{Phrases}
 use Rattle.kt_grammar.specs.declared.context.Context.{Context}
@@ -25,7 +60,16 @@ use Rattle.kt_grammar_parsers.proofs.Repeat.{repeat_correct}
 use Rattle.kt_grammar.proofs.parts.Sequences.{Part, Anything, Closes, then, made}
 use Rattle.kt_grammar.proofs.tokens.Meanings.{closes_halts, token_of, meant_part}
 use Rattle.kt_grammar.proofs.parts.Choices.{past_then, same_part}
-use Rattle.kt_grammar.proofs.tokens.Begins.{kind_begins_expression, kind_begins_part, Begins, begins_no, begins_eats, seq_begins_with, either_begins_with, token_begins_with}
+use Rattle.kt_grammar.proofs.tokens.Begins.{
+  kind_begins_expression,
+  kind_begins_part,
+  Begins,
+  begins_no,
+  begins_eats,
+  seq_begins_with,
+  either_begins_with,
+  token_begins_with,
+}
 use Rattle.kt_grammar.proofs.parts.Below.{IsExpressionRead, ReadsBelow}
 use Rattle.kt_grammar.proofs.parts.Left.{read_part, on_left, on_room, on_only}
 use Rattle.kt_grammar.proofs.tokens.Witnesses.{sign_past_then, begins_no_line, brace_ends}

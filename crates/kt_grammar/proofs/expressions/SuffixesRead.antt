@@ -1,5 +1,28 @@
 -- What follows a primary is read exactly: calls, elements, members, `!!`.
-use Rattle.std.proofs.Common.{not, ◌≡◌, ℕ, suc, ◌<◌, Bool, true, false, ◌||◌, List, [], ◌∷◌, ◌++◌, length, length-append, None, refl, ap, arith, inl, inr, ◌⊎◌}
+use Rattle.std.proofs.Common.{
+  not,
+  ◌≡◌,
+  ℕ,
+  suc,
+  ◌<◌,
+  Bool,
+  true,
+  false,
+  ◌||◌,
+  List,
+  [],
+  ◌∷◌,
+  ◌++◌,
+  length,
+  length-append,
+  None,
+  refl,
+  ap,
+  arith,
+  inl,
+  inr,
+  ◌⊎◌,
+}
 use Rattle.kt_tree.specs.declared.tokens.Token.{Token}
 use Rattle.kt_tree.specs.declared.tokens.TokenKind.{TokenKind}
 use Rattle.kt_tree.specs.declared.tokens.TokenKind.TheVariants as kind
@@ -13,12 +36,32 @@ use Rattle.kt_grammar_parsers.specs.Phrases.{IsNothing, IsToken, IsAhead, Seq, N
 use Rattle.kt_grammar.specs.Terminals.{opens_arguments, means, nothing, member_of, name_of}
 use Rattle.kt_grammar.specs.Words.{CommaList, MaybeCommaList, IsMeant, IsPast}
 use Rattle.kt_grammar.specs.Levels.{Phrases, place, ends_in_name}
+use Rattle.kt_base.specs.declared.refusals.Pos.{Pos}
 use Rattle.kt_grammar.specs.declared.context.Context.{Context}
 use Rattle.kt_grammar.specs.Types.{IsType}
 use Rattle.kt_grammar.specs.Readers.{commas, maybe_commas, meant, type_parser}
-use Rattle.kt_grammar.specs.Expressions.{IsArguments, IsCall, IsCallOf, IsElement, IsMember, IsTypeArgumentsOfCall, SuffixTurn}
+use Rattle.kt_grammar.specs.Expressions.{
+  IsArguments,
+  IsCall,
+  IsCallOf,
+  IsPlainCall,
+  IsElement,
+  IsMember,
+  IsTypeArgumentsOfCall,
+  SuffixTurn,
+}
 use Rattle.kt_grammar.specs.Expressions as x
-use Rattle.kt_grammar.specs.ExpressionParser.{Parsers, arguments_rest, call_parser, call_of, element, member, type_arguments_of_call, suffix_turn}
+use Rattle.kt_grammar.specs.ExpressionParser.{
+  Parsers,
+  arguments_rest,
+  call_parser,
+  call_of,
+  plain_call,
+  element,
+  member,
+  type_arguments_of_call,
+  suffix_turn,
+}
 use Rattle.kt_grammar_parsers.proofs.Steps.{Any}
 use Rattle.kt_grammar_parsers.proofs.Forms.{comma_list_correct, comma_list_phrase}
 use Rattle.kt_grammar.proofs.types.TypesRead.{TypeEnds, a_sign, greater_ends, types_correct}
@@ -30,11 +73,40 @@ use Rattle.kt_grammar.proofs.parts.Choices.{past_then, room_goes, room_stops}
 use Rattle.kt_grammar.proofs.parts.Optionals.{on_room_before}
 use Rattle.kt_grammar.proofs.levels.Room.{room_left}
 use Rattle.kt_grammar_parsers.proofs.Optional.{not_reads, token_begins}
-use Rattle.kt_grammar.proofs.tokens.Begins.{kind_begins_expression, of_kind, Begins, begins_eats, begins_not_read, first_yes, seq_begins_with, either_begins_with}
+use Rattle.kt_grammar.proofs.tokens.Begins.{
+  kind_begins_expression,
+  of_kind,
+  Begins,
+  begins_eats,
+  begins_not_read,
+  first_yes,
+  seq_begins_with,
+  either_begins_with,
+}
 use Rattle.kt_grammar.proofs.parts.Below.{ReadsBelow, Halts}
 use Rattle.kt_grammar.proofs.parts.Left.{read_part, not_ahead, next_left, commas_part, on_left}
-use Rattle.kt_grammar.proofs.tokens.Witnesses.{sign_is, sign_then, close_then, closes_at, parenthesis_ends, bracket_ends, at_sign, sign_begins, begins_no_sign, name_part, name_no_line}
-use Rattle.kt_grammar.proofs.parts.Firsts.{past_begins, meant_begins, ahead_part, room_before, room_eats, seq_eats, turn_eats_by}
+use Rattle.kt_grammar.proofs.tokens.Witnesses.{
+  sign_is,
+  sign_then,
+  close_then,
+  closes_at,
+  parenthesis_ends,
+  bracket_ends,
+  at_sign,
+  sign_begins,
+  begins_no_sign,
+  name_part,
+  name_no_line,
+}
+use Rattle.kt_grammar.proofs.parts.Firsts.{
+  past_begins,
+  meant_begins,
+  ahead_part,
+  room_before,
+  room_eats,
+  seq_eats,
+  turn_eats_by,
+}
 
 parenthesis_no_comma : (t : Token) → is_sign sign.CloseParenthesis t ≡ true → is_sign sign.Comma t ≡ false
 unfolding same_sign
@@ -84,9 +156,9 @@ module _ (parsers : Parsers) (phrases : Phrases) (R : ReadsBelow parsers phrases
   pub call_part : {F : List Token → Type 0} → ((ts : List Token) → F (a_sign sign.OpenParenthesis ∷ ts)) → Part (call_parser (suc n) parsers at) (IsCall (suc n) phrases at) F (λ _. Closes)
   unfolding same_sign
   call_part asked = on_left (a_sign sign.OpenParenthesis) (sign_is sign.OpenParenthesis) left
-      (λ h. (then (read_part {F = Anything} (R.lambda at) h (λ tail s. s) (λ ts s. tt)) (λ l. made (l ∷ []) (λ tail s. tt))).correct)
+      (λ h. (then (read_part {F = Anything} (R.lambda at) h (λ tail s. s) (λ ts s. tt)) (λ l. made (l ∷ [], place l) (λ tail s. tt))).correct)
       (λ h c. rw ((R.lambda at).refuses h c) refl) (λ h b u rest s. (R.lambda at).none h s.value s.front (s.back ++ rest) s.phrase)
-      (λ _. arguments_rest_part) (begins_no_sign (kind_is_sign sign.OpenBrace) sign.OpenParenthesis refl (seq_begins_with (kind_is_sign sign.OpenBrace) (R.lambda at).begins)) asked
+      (λ t. then arguments_rest_part (λ es. made (es, t.pos) (λ tail s. s))) (begins_no_sign (kind_is_sign sign.OpenBrace) sign.OpenParenthesis refl (seq_begins_with (kind_is_sign sign.OpenBrace) (R.lambda at).begins)) asked
 
   call_begins : Begins kind_begins_call (IsCall (suc n) phrases at)
   call_begins = either_begins_with kind_begins_call (seq_begins_with kind_begins_call (sign_begins kind_begins_call sign.OpenParenthesis refl)) (seq_begins_with kind_begins_call (lambda_begins (R.lambda at).begins))
@@ -98,11 +170,15 @@ module _ (parsers : Parsers) (phrases : Phrases) (R : ReadsBelow parsers phrases
   abbrev CallFollows : List Token → Type 0
   CallFollows tail = first opens_arguments tail ≡ true
 
-  call_of_part : (a : ExpressionTree) (ts : List TypeTree) → Part (call_of (suc n) parsers at a ts) (IsCallOf (suc n) phrases at a ts) CallFollows (λ _. Closes)
+  call_of_part : (a : ExpressionTree) (ts : List TypeTree × Pos) → Part (call_of (suc n) parsers at a ts) (IsCallOf (suc n) phrases at a ts) CallFollows (λ _. Closes)
   unfolding same_sign
-  call_of_part a ts = then (call_part (λ rest. refl)) (λ es. made (inl (x.called (suc n) phrases at a ts es)) (λ tail h. h))
+  call_of_part a ts = then (call_part (λ rest. refl)) (λ es. made (inl (x.called (suc n) phrases at a ts.1 ts.0 es.0)) (λ tail h. h))
 
-  call_eats : (a b : ExpressionTree) (u rest : List Token) → Seq (IsAhead opens_arguments) (λ _. IsCallOf (suc n) phrases at a []) (inl b) u rest → 0 < length u
+  plain_call_part : (a : ExpressionTree) → Part (plain_call (suc n) parsers at a) (IsPlainCall (suc n) phrases at a) CallFollows (λ _. Closes)
+  unfolding same_sign
+  plain_call_part a = then (call_part (λ rest. refl)) (λ es. made (inl (x.called (suc n) phrases at a es.1 [] es.0)) (λ tail h. h))
+
+  call_eats : (a b : ExpressionTree) (u rest : List Token) → Seq (IsAhead opens_arguments) (λ _. IsPlainCall (suc n) phrases at a) (inl b) u rest → 0 < length u
   call_eats a b u rest s = omega (arith, ap length s.is, length-append s.front s.back, seq_eats (begins_eats kind_begins_call call_begins) (inl b) s.back rest s.phrase')
 
   -- ---- type arguments of a call
@@ -112,10 +188,10 @@ module _ (parsers : Parsers) (phrases : Phrases) (R : ReadsBelow parsers phrases
       (comma_list_phrase (is_sign sign.Comma) (is_sign sign.Greater) (a_sign sign.Comma) (a_sign sign.Greater) (sign_is sign.Comma) (sign_is sign.Greater) greater_no_comma (type_parser (suc n)) (IsType (suc n)) TypeEnds (types_correct n) (some_type n) greater_ends Any)
 
   type_arguments_part : Part (type_arguments_of_call (suc n) parsers at) (IsTypeArgumentsOfCall (suc n) phrases at) Anything (λ _. CallFollows)
-  type_arguments_part = then (sign_then sign.Less (λ tail. tt) (λ _. types_part)) (λ ts. then (ahead_part opens_arguments (λ tail h. h) (λ tail h. tt)) (λ _. made ts (λ tail h. h)))
+  type_arguments_part = sign_then sign.Less (λ tail. tt) (λ t. then types_part (λ ts. then (ahead_part opens_arguments (λ tail h. h) (λ tail h. tt)) (λ _. made (ts, t.pos) (λ tail h. h))))
 
   type_arguments_begin : Begins (kind_is_sign sign.Less) (IsTypeArgumentsOfCall (suc n) phrases at)
-  type_arguments_begin = seq_begins_with (kind_is_sign sign.Less) (seq_begins_with (kind_is_sign sign.Less) (sign_begins (kind_is_sign sign.Less) sign.Less (sign_is sign.Less)))
+  type_arguments_begin = seq_begins_with (kind_is_sign sign.Less) (sign_begins (kind_is_sign sign.Less) sign.Less (sign_is sign.Less))
 
   -- ---- elements and members
 
@@ -170,11 +246,11 @@ module _ (parsers : Parsers) (phrases : Phrases) (R : ReadsBelow parsers phrases
   FromBang a = WhereRoom (more a) (IsToken (is_sign sign.NotNull)) (λ _. IsNothing (inl (e.not_null (place a) a))) (FromElement a)
 
   abbrev FromCall : ExpressionTree → ExpressionTree ⊎ ExpressionTree → List Token → List Token → Type 0
-  FromCall a = WhereRoom (x.has_call (suc n) phrases at a) (IsAhead opens_arguments) (λ _. IsCallOf (suc n) phrases at a []) (FromBang a)
+  FromCall a = WhereRoom (x.has_call (suc n) phrases at a) (IsAhead opens_arguments) (λ _. IsPlainCall (suc n) phrases at a) (FromBang a)
 
   turn_part : (a : ExpressionTree) → Part (suffix_turn (suc n) parsers at a) (Turn a) Closes (λ _. Closes)
   turn_part a = room_before (ends_in_name a) type_arguments_part (λ h ts. call_of_part a ts)
-      (room_before (x.has_call (suc n) phrases at a) (ahead_part {F = Anything} opens_arguments (λ tail h. h) (λ tail h. tt)) (λ h _. call_of_part a [])
+      (room_before (x.has_call (suc n) phrases at a) (ahead_part {F = Anything} opens_arguments (λ tail h. h) (λ tail h. tt)) (λ h _. plain_call_part a)
       (on_room_before (more a) (is_sign sign.NotNull) (a_sign sign.NotNull) (sign_is sign.NotNull) (λ h _. made (inl (e.not_null (place a) a)) (λ tail h. tt))
       (on_room_before (more a) (is_sign sign.OpenBracket) (a_sign sign.OpenBracket) (sign_is sign.OpenBracket) (λ h _. element_part a (room_left n a h))
       (room_before (more a) member_sign_part (λ h safe. member_part a safe.1) (made (inr a) (λ tail h. h))
@@ -189,7 +265,7 @@ module _ (parsers : Parsers) (phrases : Phrases) (R : ReadsBelow parsers phrases
 
   turn_eats : (a b : ExpressionTree) (u rest : List Token) → Turn a (inl b) u rest → 0 < length u
   turn_eats a b u rest t = room_eats (IsTypeArgumentsOfCall (suc n) phrases at) (IsCallOf (suc n) phrases at a) (FromCall a) (ends_in_name a) (inl b) u rest (begins_eats (kind_is_sign sign.Less) type_arguments_begin)
-      (turn_eats_by (IsAhead opens_arguments) (λ _. IsCallOf (suc n) phrases at a []) (FromBang a) (x.has_call (suc n) phrases at a) (inl b) u rest (call_eats a b u rest)
+      (turn_eats_by (IsAhead opens_arguments) (λ _. IsPlainCall (suc n) phrases at a) (FromBang a) (x.has_call (suc n) phrases at a) (inl b) u rest (call_eats a b u rest)
       (room_eats (IsToken (is_sign sign.NotNull)) (λ _. IsNothing (inl (e.not_null (place a) a))) (FromElement a) (more a) (inl b) u rest one_eats
       (room_eats (IsToken (is_sign sign.OpenBracket)) (λ _. IsElement (suc n) phrases at a) (FromMember a) (more a) (inl b) u rest one_eats
       (room_eats (IsPast (IsMeant member_of)) (λ safe. IsMember (suc n) phrases at a safe.1) (IsNothing (inr a)) (more a) (inl b) u rest (past_meant_eats member_of) (λ m. absurd (let e : inl b ≡ inr a = m.value in cc)))))) t

@@ -1,5 +1,23 @@
 -- `try` is read exactly.
-use Rattle.std.proofs.Common.{◌≡◌, ◌<◌, ℕ, suc, Bool, true, false, List, [], ◌∷◌, ◌++◌, length, refl, subst, inl, inr, ◌⊎◌}
+use Rattle.std.proofs.Common.{
+  ◌≡◌,
+  ◌<◌,
+  ℕ,
+  suc,
+  Bool,
+  true,
+  false,
+  List,
+  [],
+  ◌∷◌,
+  ◌++◌,
+  length,
+  refl,
+  subst,
+  inl,
+  inr,
+  ◌⊎◌,
+}
 use Rattle.kt_base.specs.declared.refusals.Pos.{Pos}
 use Rattle.kt_tree.specs.declared.tokens.Token.{Token}
 use Rattle.kt_tree.specs.declared.tokens.TokenKind.{TokenKind}
@@ -17,15 +35,42 @@ use Rattle.kt_grammar.specs.Words.{IsPast}
 use Rattle.kt_grammar.specs.Levels.{Phrases}
 use Rattle.kt_grammar.specs.declared.context.Context.{Context}
 use Rattle.kt_grammar.specs.Expressions.{IsBlock, IsBlockRest, IsCatchHead, IsFinallyHead, CatchTurn, IsNoFinally}
-use Rattle.kt_grammar.specs.ExpressionParser.{Parsers, block_rest, catch_head, finally_head, catch_turn, no_finally, try_rest}
+use Rattle.kt_grammar.specs.ExpressionParser.{
+  Parsers,
+  block_rest,
+  catch_head,
+  finally_head,
+  catch_turn,
+  no_finally,
+  try_rest,
+}
 use Rattle.kt_grammar_parsers.proofs.Steps.{Any}
 use Rattle.kt_grammar_parsers.proofs.Repeat.{repeat_correct}
-use Rattle.kt_grammar.proofs.parts.Sequences.{Part, Anything, Closes, then, made, one, any_part, past, where_part, room_part}
+use Rattle.kt_grammar.proofs.parts.Sequences.{
+  Part,
+  Anything,
+  Closes,
+  then,
+  made,
+  one,
+  any_part,
+  past,
+  where_part,
+  room_part,
+}
 use Rattle.kt_grammar.proofs.parts.Choices.{past_then, room_stops}
 use Rattle.kt_grammar.proofs.tokens.Meanings.{closes_halts, halts_no}
 use Rattle.kt_grammar.proofs.tokens.Begins.{Begins, begins_eats, begins_not_read, seq_begins_with, token_begins_with}
 use Rattle.kt_grammar.proofs.parts.Below.{Halts, ReadsBelow}
-use Rattle.kt_grammar.proofs.tokens.Witnesses.{a_soft_keyword, sign_is, sign_part, sign_then, sign_begins, name_part, begins_no_line}
+use Rattle.kt_grammar.proofs.tokens.Witnesses.{
+  a_soft_keyword,
+  sign_is,
+  sign_part,
+  sign_then,
+  sign_begins,
+  name_part,
+  begins_no_line,
+}
 use Rattle.kt_grammar.proofs.parts.Firsts.{past_begins, room_eats}
 use Rattle.kt_grammar.proofs.expressions.BlocksRead.{block_part, block_rest_part}
 use Rattle.kt_grammar.proofs.parts.Refused.{or_refuse_part}

@@ -1,5 +1,25 @@
 -- A file of the grammar has at most 200 levels.
-use Rattle.std.proofs.Common.{◌≡◌, ℕ, suc, ◌+◌, ◌≤◌, Bool, true, false, List, [], ◌∷◌, Option, None, Some, max, refl, subst, arith, map}
+use Rattle.std.proofs.Common.{
+  ◌≡◌,
+  ℕ,
+  suc,
+  ◌+◌,
+  ◌≤◌,
+  Bool,
+  true,
+  false,
+  List,
+  [],
+  ◌∷◌,
+  Option,
+  None,
+  Some,
+  max,
+  refl,
+  subst,
+  arith,
+  map,
+}
 use Rattle.kt_tree.specs.declared.tokens.Token.{Token}
 use Rattle.kt_tree.specs.declared.bodies.Literal.{Literal}
 use Rattle.kt_tree.specs.declared.bodies.TextPart.{TextPart}
@@ -7,12 +27,90 @@ use Rattle.kt_tree.specs.declared.declarations.ConstantValue.{ConstantValue}
 use Rattle.kt_tree.specs.declared.declarations.ConstantValue.TheVariants as value
 use Rattle.kt_tree.specs.Types.{TypeTree}
 use Rattle.kt_tree.specs.Bodies.{ExpressionTree}
-use Rattle.kt_tree.specs.Declarations.{TypeParameterTree, TypedParameterTree, FunctionBodyTree, FunctionTree, ConstructorParameterTree, SupertypeTree, PropertyTree, MemberTree, ClassTree, InterfaceTree, ConstantTree, DeclarationTree}
-use Rattle.kt_tree.specs.Levels.{levels, type_levels, statement_levels, type_parameter_levels, typed_parameter_levels, function_body_levels, function_levels, constructor_parameter_levels, super_arguments_levels, supertype_levels, member_levels, class_levels, interface_levels, constant_value_levels, constant_levels, declaration_levels, file_levels}
+use Rattle.kt_tree.specs.Declarations.{
+  TypeParameterTree,
+  TypedParameterTree,
+  FunctionBodyTree,
+  FunctionTree,
+  ConstructorParameterTree,
+  SupertypeTree,
+  PropertyTree,
+  MemberTree,
+  ClassTree,
+  InterfaceTree,
+  ConstantTree,
+  DeclarationTree,
+}
+use Rattle.kt_tree.specs.Levels.{
+  levels,
+  type_levels,
+  statement_levels,
+  type_parameter_levels,
+  typed_parameter_levels,
+  function_body_levels,
+  function_levels,
+  constructor_parameter_levels,
+  super_arguments_levels,
+  supertype_levels,
+  member_levels,
+  class_levels,
+  interface_levels,
+  constant_value_levels,
+  constant_levels,
+  declaration_levels,
+  file_levels,
+}
 use Rattle.kt_grammar.specs.Types.{IsType, IsNamedType}
 use Rattle.kt_grammar.specs.Statements.{phrases}
-use Rattle.kt_grammar.specs.Declarations.{Scope, at_top, in_class, in_interface, most_levels, top, outside, IsTypeArgument, IsTypeParameter, IsTypeParameters, IsTypedParameter, IsFunctionBody, IsFunction, IsConstructorParameter, IsConstructor, IsSupertype, IsSupertypes, IsMembers, IsProperty, IsMember, IsClass, IsInterface, IsEnum, IsConstantLiteral, IsConstantText, IsConstant, IsDeclaration, IsFile}
-use Rattle.kt_grammar.proofs.levels.Holding.{Each, All, Perhaps, most_of, each_gives, each_either, each_if, each_past, each_seq, each_then, each_where, each_comma_list, each_maybe_comma_list, each_several, each_items, each_maybe, each_empty}
+use Rattle.kt_grammar.specs.Declarations.{
+  Scope,
+  at_top,
+  in_class,
+  in_interface,
+  most_levels,
+  top,
+  outside,
+  IsTypeArgument,
+  IsTypeParameter,
+  IsTypeParameters,
+  IsTypedParameter,
+  IsFunctionBody,
+  IsFunction,
+  IsConstructorParameter,
+  IsConstructor,
+  IsSupertype,
+  IsSupertypes,
+  IsMembers,
+  IsProperty,
+  IsMember,
+  IsClass,
+  IsInterface,
+  IsEnum,
+  IsConstantLiteral,
+  IsConstantText,
+  IsConstant,
+  IsDeclaration,
+  IsFile,
+}
+use Rattle.kt_grammar.proofs.levels.Holding.{
+  Each,
+  All,
+  Perhaps,
+  most_of,
+  each_gives,
+  each_either,
+  each_if,
+  each_past,
+  each_seq,
+  each_then,
+  each_where,
+  each_comma_list,
+  each_maybe_comma_list,
+  each_several,
+  each_items,
+  each_maybe,
+  each_empty,
+}
 use Rattle.kt_grammar.proofs.levels.TypeLevels.{TypeFits, maybe_type_fits, named_fits, type_fits}
 use Rattle.kt_grammar.proofs.levels.LevelsHeld.{block_holds, phrases_held, levels_are}
 

@@ -1,8 +1,51 @@
 -- What holds of each value of a language, from what holds of its parts.
-use Rattle.std.proofs.Common.{◌≡◌, ℕ, ◌≤◌, Bool, true, false, List, [], ◌∷◌, ◌++◌, Option, None, Some, sym, subst, arith, inl, inr, ◌⊎◌, map}
+use Rattle.std.proofs.Common.{
+  ◌≡◌,
+  ℕ,
+  ◌≤◌,
+  Bool,
+  true,
+  false,
+  List,
+  [],
+  ◌∷◌,
+  ◌++◌,
+  Option,
+  None,
+  Some,
+  sym,
+  subst,
+  arith,
+  inl,
+  inr,
+  ◌⊎◌,
+  map,
+}
 use Rattle.kt_tree.specs.Levels.{most}
 use Rattle.kt_tree.specs.declared.tokens.Token.{Token}
-use Rattle.kt_grammar_parsers.specs.Phrases.{IsNothing, IsToken, IsSkipped, Seq, Either, FirstOf, If, WhereRoom, WhereNext, Loop, ends, turns, CommaTurn, CommaList, MaybeCommaList, MoreTurn, Several, ItemTurn, Items, ChainTurn, Chain}
+use Rattle.kt_grammar_parsers.specs.Phrases.{
+  IsNothing,
+  IsToken,
+  IsSkipped,
+  Seq,
+  Either,
+  FirstOf,
+  If,
+  WhereRoom,
+  WhereNext,
+  Loop,
+  ends,
+  turns,
+  CommaTurn,
+  CommaList,
+  MaybeCommaList,
+  MoreTurn,
+  Several,
+  ItemTurn,
+  Items,
+  ChainTurn,
+  Chain,
+}
 use Rattle.kt_grammar.specs.Words.{Empty, Maybe}
 
 -- each value of the language meets P

@@ -1,15 +1,84 @@
 -- Phrases of at most so many levels have trees of at most so many levels.
-use Rattle.std.proofs.Common.{◌≡◌, ℕ, zero, suc, ◌+◌, ◌≤◌, ◌<◌, Bool, true, false, ◌&&◌, nat_lt, nat_le, max, List, [], ◌∷◌, ◌++◌, Option, None, Some, refl, ap, sym, subst, arith, inl, inr, ◌⊎◌, map}
+use Rattle.std.proofs.Common.{
+  ◌≡◌,
+  ℕ,
+  zero,
+  suc,
+  ◌+◌,
+  ◌≤◌,
+  ◌<◌,
+  Bool,
+  true,
+  false,
+  ◌&&◌,
+  nat_lt,
+  nat_le,
+  max,
+  List,
+  [],
+  ◌∷◌,
+  ◌++◌,
+  Option,
+  None,
+  Some,
+  refl,
+  ap,
+  sym,
+  subst,
+  arith,
+  inl,
+  inr,
+  ◌⊎◌,
+  map,
+}
 use Rattle.std.proofs.lemmas.Bool.Decides.{nat_tests}
 use Rattle.kt_tree.specs.declared.tokens.Token.{Token}
+use Rattle.kt_base.specs.declared.refusals.Pos.{Pos}
 use Rattle.kt_tree.specs.Types.{TypeTree}
 use Rattle.kt_tree.specs.Bodies as e
-use Rattle.kt_tree.specs.Bodies.{ExpressionTree, StatementTree, BodyTree, BlockTree, PartTree, ParameterTree, EntryTree, ConditionTree, CatchTree, expressions_of, parts_of, entries_of, conditions_of, catches_of, statements_of, maybe_expression}
-use Rattle.kt_tree.specs.Levels.{most, levels, type_levels, maybe_type_levels, parameter_levels, expressions_levels, maybe_levels, part_levels, parts_levels, part_level, entry_levels, entries_levels, condition_levels, conditions_levels, catch_levels, catches_levels, body_levels, block_levels, statement_levels, statements_levels}
+use Rattle.kt_tree.specs.Bodies.{
+  ExpressionTree,
+  StatementTree,
+  BodyTree,
+  BlockTree,
+  PartTree,
+  ParameterTree,
+  EntryTree,
+  ConditionTree,
+  CatchTree,
+  expressions_of,
+  parts_of,
+  entries_of,
+  conditions_of,
+  catches_of,
+  statements_of,
+  maybe_expression,
+}
+use Rattle.kt_tree.specs.Levels.{
+  most,
+  levels,
+  type_levels,
+  maybe_type_levels,
+  parameter_levels,
+  expressions_levels,
+  maybe_levels,
+  part_levels,
+  parts_levels,
+  part_level,
+  entry_levels,
+  entries_levels,
+  condition_levels,
+  conditions_levels,
+  catch_levels,
+  catches_levels,
+  body_levels,
+  block_levels,
+  statement_levels,
+  statements_levels,
+}
 use Rattle.kt_grammar_parsers.specs.Parsers.{some_levels}
 use Rattle.kt_grammar_parsers.specs.Phrases.{Seq, Loop, Chain}
-use Rattle.kt_grammar.specs.Levels.{Phrases, none, ends_in_name, is_target}
-use Rattle.kt_grammar.specs.Types.{IsType}
+use Rattle.kt_grammar.specs.Levels.{Phrases, none, place, ends_in_name, is_target}
 use Rattle.kt_grammar.specs.declared.context.Context.{Context}
 use Rattle.kt_grammar.specs.Expressions as x
 use Rattle.kt_grammar.specs.Expressions.{IsPart, IsParameter, IsBlockRest, IsBlock, in_lambda}
@@ -17,8 +86,30 @@ use Rattle.kt_grammar.specs.Statements as s
 use Rattle.kt_grammar.specs.Statements.{in_loop, over, phrases}
 use Rattle.kt_grammar_parsers.proofs.Steps.{truth}
 use Rattle.kt_grammar.proofs.levels.Room.{some_level}
-use Rattle.kt_grammar.proofs.levels.Holding.{Each, Turns, All, Perhaps, all_last, most_of, each_gives, each_either, each_if, each_past, each_seq, each_then, each_where, each_room, each_loop, each_comma_list, each_maybe_comma_list, each_several, each_items, each_maybe, each_empty}
-use Rattle.kt_grammar.proofs.levels.TypeLevels.{TypeFits, maybe_type_fits, arguments_fit, type_fits}
+use Rattle.kt_grammar.proofs.levels.Holding.{
+  Each,
+  Turns,
+  All,
+  Perhaps,
+  all_last,
+  most_of,
+  each_gives,
+  each_either,
+  each_if,
+  each_past,
+  each_seq,
+  each_then,
+  each_where,
+  each_room,
+  each_loop,
+  each_comma_list,
+  each_maybe_comma_list,
+  each_several,
+  each_items,
+  each_maybe,
+  each_empty,
+}
+use Rattle.kt_grammar.proofs.levels.TypeLevels.{TypeFits, maybe_type_fits, type_fits}
 
 -- ---- of lists, from what holds of each item
 
@@ -191,24 +282,34 @@ module _ (below : Phrases) (H : Held below) (at : Context) where
   abbrev ArgumentsFit : List ExpressionTree → Type 0
   ArgumentsFit = All Inner
 
-  arguments_hold : Each (x.IsCall room below at) ArgumentsFit
-  arguments_hold = each_either
-      (each_then (λ _. each_seq (each_maybe_comma_list Inner (H.disjunction at)) (λ es all. each_where (each_then (λ _. each_seq (H.lambda at) (λ l h. each_gives (all_last Inner es l all h)))) (each_gives all))))
-      (each_seq (H.lambda at) (λ l h. each_gives (h, tt)))
+  arguments_hold : Each (x.IsArguments room below at) ArgumentsFit
+  arguments_hold = each_seq (each_maybe_comma_list Inner (H.disjunction at))
+      (λ es all. each_where (each_then (λ _. each_seq (H.lambda at) (λ l h. each_gives (all_last Inner es l all h)))) (each_gives all))
+
+  call_arguments_hold : Each (x.IsCall room below at) (λ es. ArgumentsFit es.0)
+  call_arguments_hold = each_either (each_then (λ t. each_seq arguments_hold (λ es all. each_gives {P = λ es. ArgumentsFit es.0} all)))
+      (each_seq (H.lambda at) (λ l h. each_gives {P = λ es. ArgumentsFit es.0} (h, tt)))
+
+  -- there is room for a call of this
+  abbrev CallFits : ExpressionTree → Type 0
+  CallFits a = levels (x.called room below at a (place a) [] []) ≤ room
 
   -- what is called, and the arguments and types, have room
-  call_holds : (a : ExpressionTree) (ts : List TypeTree) → levels (x.called room below at a [] []) ≤ room → All (TypeFits room) ts → Each (x.IsCallOf room below at a ts) (Turns Fits Fits)
-  call_holds a ts h all = each_seq arguments_hold (λ es k. each_gives (let j = expressions_fit m es k in let i = most_of type_levels room ts all in omega (arith, h, i, j)))
+  call_holds : (a : ExpressionTree) (ts : List TypeTree × Pos) → CallFits a → All (TypeFits room) ts.0 → Each (x.IsCallOf room below at a ts) (Turns Fits Fits)
+  call_holds a ts h all = each_seq call_arguments_hold (λ es k. each_gives (let j = expressions_fit m es.0 k in let i = most_of type_levels room ts.0 all in omega (arith, h, i, j)))
 
-  named_call : (a : ExpressionTree) → ends_in_name a ≡ true → Fits a → levels (x.called room below at a [] []) ≤ room
+  plain_call_holds : (a : ExpressionTree) → CallFits a → Each (x.IsPlainCall room below at a) (Turns Fits Fits)
+  plain_call_holds a h = each_seq call_arguments_hold (λ es k. each_gives (let j = expressions_fit m es.0 k in omega (arith, h, j)))
+
+  named_call : (a : ExpressionTree) → ends_in_name a ≡ true → Fits a → CallFits a
   named_call (e.name at' y) n h = omega arith
   named_call (e.member at' a safe y) n h = omega (arith, h)
   named_call _ n h = absurd (let i : false ≡ true = n in cc)
 
   suffix_holds : (a : ExpressionTree) → Fits a → Each (x.SuffixTurn room below at a) (Turns Fits Fits)
   suffix_holds a h =
-      each_room _ (λ n. each_seq (each_seq (arguments_fit room (IsType room) (type_fits room)) (λ ts all. each_then (λ _. each_gives {P = All (TypeFits room)} all))) (λ ts all. call_holds a ts (named_call a n h) all))
-      (each_room _ (λ c. each_then (λ _. call_holds a [] (at_most _ _ c) tt))
+      each_room _ (λ n. each_seq (each_then (λ t. each_seq (each_comma_list (TypeFits room) (type_fits room)) (λ ts all. each_then (λ _. each_gives {P = λ ts. All (TypeFits room) ts.0} all)))) (λ ts all. call_holds a ts (named_call a n h) all))
+      (each_room _ (λ c. each_then (λ _. plain_call_holds a (at_most _ _ c)))
       (each_room _ (λ g. each_then (λ _. each_gives (let k = within _ _ g in omega (arith, k))))
       (each_room _ (λ g. each_then (λ _. each_seq (H.disjunction at) (λ i j. each_then (λ _. each_gives (let k = within _ _ g in omega (arith, k, j))))))
       (each_room _ (λ g. each_then (λ safe. each_then (λ y. each_gives (let k = within _ _ g in omega (arith, k))))) (each_gives h)))))

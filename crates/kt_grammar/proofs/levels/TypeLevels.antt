@@ -1,11 +1,53 @@
 -- A type of the grammar has as many levels as it may have.
-use Rattle.std.proofs.Common.{◌≡◌, ℕ, zero, suc, ◌≤◌, Bool, true, false, List, [], ◌∷◌, Option, None, Some, arith, inl, inr}
+use Rattle.std.proofs.Common.{
+  ◌≡◌,
+  ℕ,
+  zero,
+  suc,
+  ◌≤◌,
+  Bool,
+  true,
+  false,
+  List,
+  [],
+  ◌∷◌,
+  Option,
+  None,
+  Some,
+  arith,
+  inl,
+  inr,
+}
 use Rattle.kt_tree.specs.declared.tokens.Token.{Token}
 use Rattle.kt_tree.specs.Types.{TypeTree, named, function, nullable, parenthesized, types_of}
 use Rattle.kt_tree.specs.Levels.{type_levels, types_levels, maybe_type_levels}
 use Rattle.kt_grammar_parsers.specs.Parsers.{some_levels}
-use Rattle.kt_grammar.specs.Types.{IsType, IsTypeOver, IsTypeArguments, IsNamedType, IsMaybeNullable, IsResult, IsSuspendType, IsBehindTypes, IsInParentheses}
-use Rattle.kt_grammar.proofs.levels.Holding.{Each, All, Perhaps, each_gives, each_either, each_seq, each_then, each_where, each_room, each_comma_list, each_maybe_comma_list, each_maybe, each_empty}
+use Rattle.kt_grammar.specs.Types.{
+  IsType,
+  IsTypeOver,
+  IsTypeArguments,
+  IsNamedType,
+  IsMaybeNullable,
+  IsResult,
+  IsSuspendType,
+  IsBehindTypes,
+  IsInParentheses,
+}
+use Rattle.kt_grammar.proofs.levels.Holding.{
+  Each,
+  All,
+  Perhaps,
+  each_gives,
+  each_either,
+  each_seq,
+  each_then,
+  each_where,
+  each_room,
+  each_comma_list,
+  each_maybe_comma_list,
+  each_maybe,
+  each_empty,
+}
 
 -- a type has at most so many levels
 abbrev pub TypeFits : ℕ → TypeTree → Type 0

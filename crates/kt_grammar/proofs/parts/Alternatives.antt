@@ -13,7 +13,15 @@ use Rattle.kt_grammar.specs.Readers.{on_if}
 use Rattle.kt_grammar.proofs.parts.Sequences.{Part, Anything, Closes}
 use Rattle.kt_grammar.proofs.tokens.Closing.{kind_sign}
 use Rattle.kt_grammar.proofs.tokens.Distinct.{kind_keyword}
-use Rattle.kt_grammar.proofs.tokens.Begins.{of_kind, Begins, first_yes, begins_no, seq_begins_with, token_begins_with, either_begins_with}
+use Rattle.kt_grammar.proofs.tokens.Begins.{
+  of_kind,
+  Begins,
+  first_yes,
+  begins_no,
+  seq_begins_with,
+  token_begins_with,
+  either_begins_with,
+}
 use Rattle.kt_grammar.proofs.tokens.Keywords.{or_left, or_right, or_either}
 use Rattle.kt_grammar.proofs.parts.Productions.{Production, as_part}
 use Rattle.kt_grammar.proofs.parts.Left.{on_room, on_only}

@@ -14,7 +14,14 @@ use Rattle.kt_grammar_parsers.proofs.Steps.{Any}
 use Rattle.kt_grammar_parsers.proofs.On.{Phrase}
 use Rattle.kt_grammar.proofs.tokens.Closing.{is_closing}
 use Rattle.kt_grammar.proofs.parts.Sequences.{Part, Anything, Closes}
-use Rattle.kt_grammar.proofs.tokens.Begins.{kind_begins_expression, kind_begins_statement, kind_begins_condition, kind_begins_entry, kind_begins_part, Begins}
+use Rattle.kt_grammar.proofs.tokens.Begins.{
+  kind_begins_expression,
+  kind_begins_statement,
+  kind_begins_condition,
+  kind_begins_entry,
+  kind_begins_part,
+  Begins,
+}
 
 -- What stands where `left` says that levels are left for it: then the parser reads exactly the language, and else there is no
 -- phrase and the parser refuses the next token. Stop is what may follow a phrase that was completed, and Halt what may follow

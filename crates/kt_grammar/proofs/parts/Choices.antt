@@ -1,9 +1,42 @@
 -- Choices between parts, and parts behind line ends.
-use Rattle.std.proofs.Common.{◌≡◌, Bool, true, false, List, [], ◌∷◌, ◌++◌, length, length-append, ◌<◌, arith, refl, sym, ap, subst, ◌∙◌, append_assoc, inl, inr, ◌⊎◌}
+use Rattle.std.proofs.Common.{
+  ◌≡◌,
+  Bool,
+  true,
+  false,
+  List,
+  [],
+  ◌∷◌,
+  ◌++◌,
+  length,
+  length-append,
+  ◌<◌,
+  arith,
+  refl,
+  sym,
+  ap,
+  subst,
+  ◌∙◌,
+  append_assoc,
+  inl,
+  inr,
+  ◌⊎◌,
+}
 use Rattle.kt_tree.specs.declared.tokens.Token.{Token}
 use Rattle.kt_grammar.specs.Readers.{on_if}
 use Rattle.kt_grammar_parsers.specs.Parsers.{Parser, first, ◌>>=◌, ◌>>◌, pure, skip, on, attempt, attempt_if, repeat}
-use Rattle.kt_grammar_parsers.specs.Phrases.{IsNothing, IsToken, IsSkipped, Seq, Either, NotReads, FirstOf, WhereRoom, Loop, ends}
+use Rattle.kt_grammar_parsers.specs.Phrases.{
+  IsNothing,
+  IsToken,
+  IsSkipped,
+  Seq,
+  Either,
+  NotReads,
+  FirstOf,
+  WhereRoom,
+  Loop,
+  ends,
+}
 use Rattle.kt_grammar_parsers.proofs.Correct.{Correct, below, correct, same_language}
 use Rattle.kt_grammar_parsers.proofs.Steps.{Any, truth}
 use Rattle.kt_grammar_parsers.proofs.On.{on_correct}

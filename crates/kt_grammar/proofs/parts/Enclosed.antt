@@ -1,5 +1,23 @@
 -- Parts that a token ends: turns, lists in parentheses and in braces; and lists with commas that something else ends.
-use Rattle.std.proofs.Common.{◌≡◌, ◌<◌, Bool, true, false, List, [], ◌∷◌, ◌++◌, length, refl, sym, ap, ◌∙◌, inl, inr, ◌⊎◌}
+use Rattle.std.proofs.Common.{
+  ◌≡◌,
+  ◌<◌,
+  Bool,
+  true,
+  false,
+  List,
+  [],
+  ◌∷◌,
+  ◌++◌,
+  length,
+  refl,
+  sym,
+  ap,
+  ◌∙◌,
+  inl,
+  inr,
+  ◌⊎◌,
+}
 use Rattle.std.proofs.lemmas.List.{append-nil}
 use Rattle.kt_base.specs.declared.refusals.Pos.{Pos}
 use Rattle.kt_tree.specs.declared.tokens.Token.{Token}
@@ -8,7 +26,18 @@ use Rattle.kt_tree.specs.declared.tokens.TokenKind.TheVariants as kind
 use Rattle.kt_tree.specs.declared.tokens.Sign.TheVariants as sign
 use Rattle.kt_tree.specs.Tokens.{same_sign, kind_is_sign, is_sign}
 use Rattle.kt_grammar_parsers.specs.Parsers.{Parser, first, repeat, several, token, ◌>>◌}
-use Rattle.kt_grammar_parsers.specs.Phrases.{IsToken, IsSkipped, AllPass, Seq, Either, If, Loop, ends, NotReads, Several}
+use Rattle.kt_grammar_parsers.specs.Phrases.{
+  IsToken,
+  IsSkipped,
+  AllPass,
+  Seq,
+  Either,
+  If,
+  Loop,
+  ends,
+  NotReads,
+  Several,
+}
 use Rattle.kt_grammar.specs.Terminals.{is_separator}
 use Rattle.kt_grammar.specs.Words.{MaybeCommaList, Items}
 use Rattle.kt_grammar.specs.Readers.{maybe_commas, separated}

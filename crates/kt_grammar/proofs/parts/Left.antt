@@ -1,9 +1,66 @@
 -- Forms over a part for which there may be no level left.
-use Rattle.std.proofs.Common.{◌≡◌, Bool, true, false, not, List, [], ◌∷◌, ◌++◌, Err, refl, sym, ap, subst, ◌∙◌, arith, inl, inr}
+use Rattle.std.proofs.Common.{
+  ◌≡◌,
+  Bool,
+  true,
+  false,
+  not,
+  List,
+  [],
+  ◌∷◌,
+  ◌++◌,
+  Err,
+  refl,
+  sym,
+  ap,
+  subst,
+  ◌∙◌,
+  arith,
+  inl,
+  inr,
+}
 use Rattle.kt_tree.specs.declared.tokens.Token.{Token}
 use Rattle.kt_tree.specs.declared.tokens.TokenKind.{TokenKind}
-use Rattle.kt_grammar_parsers.specs.Parsers.{Cursor, Parser, cursor, further, first, ◌>>=◌, ◌>>◌, pure, token, skip, on, ahead, attempt, where_next, repeat, gap, item_turn, items, comma_list, maybe_comma_list}
-use Rattle.kt_grammar_parsers.specs.Phrases.{IsNothing, IsToken, IsSkipped, IsAhead, IsGap, Seq, Either, NotReads, WhereNext, If, Loop, ends, ItemTurn, Items, CommaList, MaybeCommaList}
+use Rattle.kt_grammar_parsers.specs.Parsers.{
+  Cursor,
+  Parser,
+  cursor,
+  further,
+  first,
+  ◌>>=◌,
+  ◌>>◌,
+  pure,
+  token,
+  skip,
+  on,
+  ahead,
+  attempt,
+  where_next,
+  repeat,
+  gap,
+  item_turn,
+  items,
+  comma_list,
+  maybe_comma_list,
+}
+use Rattle.kt_grammar_parsers.specs.Phrases.{
+  IsNothing,
+  IsToken,
+  IsSkipped,
+  IsAhead,
+  IsGap,
+  Seq,
+  Either,
+  NotReads,
+  WhereNext,
+  If,
+  Loop,
+  ends,
+  ItemTurn,
+  Items,
+  CommaList,
+  MaybeCommaList,
+}
 use Rattle.kt_grammar_parsers.proofs.Ends.{further_cases, further_first, tied_move}
 use Rattle.kt_grammar_parsers.proofs.Correct.{Correct, below, correct, same_parser, same_language}
 use Rattle.kt_grammar_parsers.proofs.Bind.{bind_correct}
@@ -11,7 +68,15 @@ use Rattle.kt_grammar_parsers.proofs.Steps.{Any, truth, pure_correct, token_corr
 use Rattle.kt_grammar_parsers.proofs.Skip.{skip_correct}
 use Rattle.kt_grammar_parsers.proofs.On.{Phrase, on_correct}
 use Rattle.kt_grammar_parsers.proofs.Repeat.{repeat_correct}
-use Rattle.kt_grammar_parsers.proofs.Forms.{NoneOf, IsAbsent, absent, looked, absent_correct, items_correct, maybe_comma_list_correct}
+use Rattle.kt_grammar_parsers.proofs.Forms.{
+  NoneOf,
+  IsAbsent,
+  absent,
+  looked,
+  absent_correct,
+  items_correct,
+  maybe_comma_list_correct,
+}
 use Rattle.kt_grammar.specs.Words.{Empty}
 use Rattle.kt_grammar.specs.Readers.{on_if}
 use Rattle.kt_grammar.proofs.parts.Sequences.{Part, Anything, phrase_of, then, where_part}

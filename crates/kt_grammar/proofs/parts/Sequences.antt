@@ -1,9 +1,56 @@
 -- Productions as chains of parts: a line for each sign, token or phrase.
-use Rattle.std.proofs.Common.{◌≡◌, ◌<◌, Bool, true, false, List, [], ◌∷◌, ◌++◌, length, refl, sym, ap, subst, ◌∙◌, append_assoc, arith, inl, inr, ◌⊎◌, length-append}
+use Rattle.std.proofs.Common.{
+  ◌≡◌,
+  ◌<◌,
+  Bool,
+  true,
+  false,
+  List,
+  [],
+  ◌∷◌,
+  ◌++◌,
+  length,
+  refl,
+  sym,
+  ap,
+  subst,
+  ◌∙◌,
+  append_assoc,
+  arith,
+  inl,
+  inr,
+  ◌⊎◌,
+  length-append,
+}
 use Rattle.std.proofs.lemmas.List.{append-nil}
 use Rattle.kt_tree.specs.declared.tokens.Token.{Token}
-use Rattle.kt_grammar_parsers.specs.Parsers.{Parser, first, ◌>>=◌, ◌>>◌, pure, token, skip, on, attempt, attempt_if, repeat}
-use Rattle.kt_grammar_parsers.specs.Phrases.{IsNothing, IsToken, AllPass, IsSkipped, Seq, Either, NotReads, FirstOf, If, WhereRoom, Loop, ends}
+use Rattle.kt_grammar_parsers.specs.Parsers.{
+  Parser,
+  first,
+  ◌>>=◌,
+  ◌>>◌,
+  pure,
+  token,
+  skip,
+  on,
+  attempt,
+  attempt_if,
+  repeat,
+}
+use Rattle.kt_grammar_parsers.specs.Phrases.{
+  IsNothing,
+  IsToken,
+  AllPass,
+  IsSkipped,
+  Seq,
+  Either,
+  NotReads,
+  FirstOf,
+  If,
+  WhereRoom,
+  Loop,
+  ends,
+}
 use Rattle.kt_grammar_parsers.proofs.Correct.{Below, Correct, Completion, below, correct, same_language}
 use Rattle.kt_grammar_parsers.proofs.Bind.{bind_correct}
 use Rattle.kt_grammar_parsers.proofs.Steps.{Any, truth, pure_correct, token_correct}

@@ -1,8 +1,53 @@
 -- Items with commas that a sign ends which may not end an item: then the last is a certain phrase.
-use Rattle.std.proofs.Common.{◌≡◌, ◌<◌, Bool, true, false, List, [], ◌∷◌, ◌++◌, length, refl, sym, ap, ◌∙◌, append_assoc, arith, inl, inr, ◌⊎◌, length-append}
+use Rattle.std.proofs.Common.{
+  ◌≡◌,
+  ◌<◌,
+  Bool,
+  true,
+  false,
+  List,
+  [],
+  ◌∷◌,
+  ◌++◌,
+  length,
+  refl,
+  sym,
+  ap,
+  ◌∙◌,
+  append_assoc,
+  arith,
+  inl,
+  inr,
+  ◌⊎◌,
+  length-append,
+}
 use Rattle.std.proofs.lemmas.List.{append-nil}
-use Rattle.kt_grammar_parsers.specs.Parsers.{Parser, first, ◌>>=◌, ◌>>◌, pure, token, skip, attempt, repeat, more_turn, several}
-use Rattle.kt_grammar_parsers.specs.Phrases.{IsNothing, IsToken, IsSkipped, Seq, NotReads, FirstOf, Loop, ends, turns, MoreTurn, Several}
+use Rattle.kt_grammar_parsers.specs.Parsers.{
+  Parser,
+  first,
+  ◌>>=◌,
+  ◌>>◌,
+  pure,
+  token,
+  skip,
+  attempt,
+  repeat,
+  more_turn,
+  several,
+}
+use Rattle.kt_grammar_parsers.specs.Phrases.{
+  IsNothing,
+  IsToken,
+  IsSkipped,
+  Seq,
+  NotReads,
+  FirstOf,
+  Loop,
+  ends,
+  turns,
+  MoreTurn,
+  Several,
+}
 use Rattle.kt_grammar_parsers.proofs.Correct.{Correct, Completion}
 use Rattle.kt_grammar_parsers.proofs.Bind.{bind_correct}
 use Rattle.kt_grammar_parsers.proofs.Steps.{Any}

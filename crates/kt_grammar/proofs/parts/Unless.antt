@@ -1,5 +1,28 @@
 -- A parser that is refused where the next token passes a test.
-use Rattle.std.proofs.Common.{◌≡◌, ◌<◌, Bool, true, false, List, [], ◌∷◌, ◌++◌, length, Ok, Err, refl, sym, ap, subst, ◌∙◌, arith, inl, inr, ◌⊎◌, length-append}
+use Rattle.std.proofs.Common.{
+  ◌≡◌,
+  ◌<◌,
+  Bool,
+  true,
+  false,
+  List,
+  [],
+  ◌∷◌,
+  ◌++◌,
+  length,
+  Ok,
+  Err,
+  refl,
+  sym,
+  ap,
+  subst,
+  ◌∙◌,
+  arith,
+  inl,
+  inr,
+  ◌⊎◌,
+  length-append,
+}
 use Rattle.kt_tree.specs.declared.tokens.Token.{Token}
 use Rattle.kt_grammar_parsers.specs.Parsers.{Cursor, Outcome, Parser, cursor, further, first}
 use Rattle.kt_grammar.specs.StatementParser.{refused_if, unless}

@@ -1,5 +1,27 @@
 -- Statements as a whole and bodies are read exactly.
-use Rattle.std.proofs.Common.{◌≡◌, ◌<◌, None, Some, ℕ, suc, Bool, true, false, List, [], ◌∷◌, ◌++◌, length, refl, sym, ap, ◌∙◌, inl, inr, ◌⊎◌}
+use Rattle.std.proofs.Common.{
+  ◌≡◌,
+  ◌<◌,
+  None,
+  Some,
+  ℕ,
+  suc,
+  Bool,
+  true,
+  false,
+  List,
+  [],
+  ◌∷◌,
+  ◌++◌,
+  length,
+  refl,
+  sym,
+  ap,
+  ◌∙◌,
+  inl,
+  inr,
+  ◌⊎◌,
+}
 use Rattle.std.proofs.lemmas.List.{append-nil}
 use Rattle.kt_tree.specs.declared.tokens.Token.{Token}
 use Rattle.kt_tree.specs.declared.tokens.TokenKind.{TokenKind}
@@ -7,7 +29,15 @@ use Rattle.kt_tree.specs.declared.tokens.TokenKind.TheVariants as kind
 use Rattle.kt_tree.specs.declared.tokens.Keyword.{Keyword}
 use Rattle.kt_tree.specs.declared.tokens.Keyword.TheVariants as word
 use Rattle.kt_tree.specs.declared.tokens.Sign.TheVariants as sign
-use Rattle.kt_tree.specs.Tokens.{same_sign, same_keyword, kind_is_sign, kind_is_keyword, is_sign, is_keyword, is_identifier}
+use Rattle.kt_tree.specs.Tokens.{
+  same_sign,
+  same_keyword,
+  kind_is_sign,
+  kind_is_keyword,
+  is_sign,
+  is_keyword,
+  is_identifier,
+}
 use Rattle.kt_tree.specs.Bodies as e
 use Rattle.kt_tree.specs.Bodies.{ExpressionTree, StatementTree, BodyTree, maybe_expression}
 use Rattle.kt_grammar_parsers.specs.Parsers.{Parser, first, some_levels, ◌>>=◌, pure, on, attempt}
@@ -18,26 +48,85 @@ use Rattle.kt_grammar.specs.Types.{IsType}
 use Rattle.kt_grammar.specs.Levels.{Phrases}
 use Rattle.kt_grammar.specs.declared.context.Context.{Context}
 use Rattle.kt_grammar.specs.Expressions.{IsDisjunction, IsBlock, IsBlockRest}
-use Rattle.kt_grammar.specs.Statements.{IsInitializer, IsLocal, IsSimple, IsWhile, IsDoWhile, IsFor, IsStatement, IsBody}
+use Rattle.kt_grammar.specs.Statements.{
+  IsInitializer,
+  IsLocal,
+  IsSimple,
+  IsWhile,
+  IsDoWhile,
+  IsFor,
+  IsStatement,
+  IsBody,
+}
 use Rattle.kt_grammar.specs.Readers.{meant, on_if}
 use Rattle.kt_grammar.specs.ExpressionParser.{Parsers, disjunction_parser, block_rest}
-use Rattle.kt_grammar.specs.StatementParser.{local_rest, simple, while_rest, do_rest, for_rest, unless, statement_parser, body_parser}
+use Rattle.kt_grammar.specs.StatementParser.{
+  local_rest,
+  simple,
+  while_rest,
+  do_rest,
+  for_rest,
+  unless,
+  statement_parser,
+  body_parser,
+}
 use Rattle.kt_grammar.proofs.types.TypesRead.{a_sign}
 use Rattle.kt_grammar.proofs.parts.Sequences.{Part, Anything, Closes, then, made}
 use Rattle.kt_grammar.proofs.parts.Choices.{either_part, on_part, same_part, seq_left, seq_right}
 use Rattle.kt_grammar_parsers.proofs.Optional.{seq_begins}
-use Rattle.kt_grammar.proofs.tokens.Begins.{of_kind, Begins, kind_begins_expression, kind_begins_statement, keyword_begins_expression, keyword_begins_statement, first_yes, first_no, first_of_front, begins_no, begins_eats, seq_begins_with, either_begins_with, token_begins_with}
+use Rattle.kt_grammar.proofs.tokens.Begins.{
+  of_kind,
+  Begins,
+  kind_begins_expression,
+  kind_begins_statement,
+  keyword_begins_expression,
+  keyword_begins_statement,
+  first_yes,
+  first_no,
+  first_of_front,
+  begins_no,
+  begins_eats,
+  seq_begins_with,
+  either_begins_with,
+  token_begins_with,
+}
 use Rattle.kt_grammar.proofs.parts.Below.{Halts, ReadsBelow}
 use Rattle.kt_grammar.proofs.tokens.Meanings.{closes_halts, meant_part}
-use Rattle.kt_grammar.proofs.tokens.Distinct.{kind_keyword, no_sign, no_keyword, means_none, means_some, no_meaning, token_no}
+use Rattle.kt_grammar.proofs.tokens.Distinct.{
+  kind_keyword,
+  no_sign,
+  no_keyword,
+  means_none,
+  means_some,
+  no_meaning,
+  token_no,
+}
 use Rattle.kt_grammar.proofs.parts.Productions.{Production, as_part, as_read}
 use Rattle.kt_grammar.proofs.tokens.Witnesses.{a_keyword, sign_is}
 use Rattle.kt_grammar.proofs.tokens.Apart.{identifier_no_sign}
 use Rattle.kt_grammar.proofs.tokens.Closing.{kind_sign}
 use Rattle.kt_grammar.proofs.expressions.BlocksRead.{block_rest_part}
 use Rattle.kt_grammar.proofs.statements.StatementsRead.{local_part, simple_part}
-use Rattle.kt_grammar.proofs.statements.LoopsRead.{WhileRest, DoRest, ForRest, while_part, do_part, for_part, no_while, no_do, no_for}
-use Rattle.kt_grammar.proofs.tokens.Keywords.{or_keyword, or_left, or_right, keyword_or, keyword_production, wider, same_production}
+use Rattle.kt_grammar.proofs.statements.LoopsRead.{
+  WhileRest,
+  DoRest,
+  ForRest,
+  while_part,
+  do_part,
+  for_part,
+  no_while,
+  no_do,
+  no_for,
+}
+use Rattle.kt_grammar.proofs.tokens.Keywords.{
+  or_keyword,
+  or_left,
+  or_right,
+  keyword_or,
+  keyword_production,
+  wider,
+  same_production,
+}
 use Rattle.kt_grammar.proofs.parts.Unless.{Unless, unless_correct}
 
 identifier_no_brace : (t : Token) → is_identifier t ≡ true → is_sign sign.OpenBrace t ≡ false

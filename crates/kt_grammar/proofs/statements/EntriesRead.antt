@@ -1,5 +1,26 @@
 -- What `when` and `try` hold is read exactly.
-use Rattle.std.proofs.Common.{◌≡◌, ℕ, suc, Bool, true, false, not, List, [], ◌∷◌, ◌++◌, None, Some, Err, refl, sym, ap, ◌∙◌, inl, inr}
+use Rattle.std.proofs.Common.{
+  ◌≡◌,
+  ℕ,
+  suc,
+  Bool,
+  true,
+  false,
+  not,
+  List,
+  [],
+  ◌∷◌,
+  ◌++◌,
+  None,
+  Some,
+  Err,
+  refl,
+  sym,
+  ap,
+  ◌∙◌,
+  inl,
+  inr,
+}
 use Rattle.std.proofs.lemmas.List.{append-nil}
 use Rattle.kt_tree.specs.declared.tokens.Token.{Token}
 use Rattle.kt_tree.specs.declared.tokens.TokenKind.{TokenKind}
@@ -9,7 +30,21 @@ use Rattle.kt_tree.specs.declared.tokens.Sign.TheVariants as sign
 use Rattle.kt_tree.specs.Tokens.{same_sign, same_keyword, kind_is_sign, is_sign, is_keyword, is_new_line}
 use Rattle.kt_tree.specs.Bodies as e
 use Rattle.kt_tree.specs.Bodies.{ExpressionTree, BodyTree, EntryTree, ConditionTree, CatchTree, conditions_of}
-use Rattle.kt_grammar_parsers.specs.Parsers.{Cursor, Outcome, Parser, cursor, and_then, further, first, some_levels, ◌>>=◌, pure, repeat, more_turn, attempt}
+use Rattle.kt_grammar_parsers.specs.Parsers.{
+  Cursor,
+  Outcome,
+  Parser,
+  cursor,
+  and_then,
+  further,
+  first,
+  some_levels,
+  ◌>>=◌,
+  pure,
+  repeat,
+  more_turn,
+  attempt,
+}
 use Rattle.kt_grammar_parsers.specs.Phrases.{IsNothing, IsToken, Seq, Either, NotReads}
 use Rattle.kt_grammar.specs.Words.{Empty, IsMeant, IsPast, Several, Directly}
 use Rattle.kt_grammar.specs.Terminals.{Meaning, type_check_of, means, nothing}
@@ -19,7 +54,14 @@ use Rattle.kt_grammar.specs.declared.context.Context.{Context}
 use Rattle.kt_grammar.specs.Statements.{IsCondition, IsEntry, IsCatchRest}
 use Rattle.kt_grammar.specs.Readers.{meant, several_items, type_parser}
 use Rattle.kt_grammar.specs.ExpressionParser.{Parsers}
-use Rattle.kt_grammar.specs.StatementParser.{condition_parser, refused_if, entry_head, entry_rest, entry_parser, catch_parser}
+use Rattle.kt_grammar.specs.StatementParser.{
+  condition_parser,
+  refused_if,
+  entry_head,
+  entry_rest,
+  entry_parser,
+  catch_parser,
+}
 use Rattle.kt_grammar.proofs.types.TypesRead.{a_sign}
 use Rattle.kt_grammar_parsers.proofs.Ends.{tied_move}
 use Rattle.kt_grammar_parsers.proofs.Correct.{Correct, below as below_n, correct, same_parser, same_language, which}
@@ -33,9 +75,31 @@ use Rattle.kt_grammar.proofs.tokens.Closing.{kind_sign}
 use Rattle.kt_grammar.proofs.parts.Sequences.{Part, Anything, Closes, then, made}
 use Rattle.kt_grammar.proofs.parts.Choices.{either_part, on_part, past_then}
 use Rattle.kt_grammar.proofs.types.TypeParts.{type_part, halting_type}
-use Rattle.kt_grammar.proofs.tokens.Begins.{of_kind, Begins, kind_begins_expression, kind_begins_statement, kind_begins_condition, kind_begins_entry, begins_no, first_yes, first_of_front, seq_begins_with, either_begins_with, token_begins_with}
+use Rattle.kt_grammar.proofs.tokens.Begins.{
+  of_kind,
+  Begins,
+  kind_begins_expression,
+  kind_begins_statement,
+  kind_begins_condition,
+  kind_begins_entry,
+  begins_no,
+  first_yes,
+  first_of_front,
+  seq_begins_with,
+  either_begins_with,
+  token_begins_with,
+}
 use Rattle.kt_grammar.proofs.parts.Below.{Halts, IsExpressionRead, two_levels, condition_levels, ReadsBelow}
-use Rattle.kt_grammar.proofs.tokens.Distinct.{kind_keyword, no_new_line, no_sign, no_keyword, means_none, means_some, no_meaning, token_no}
+use Rattle.kt_grammar.proofs.tokens.Distinct.{
+  kind_keyword,
+  no_new_line,
+  no_sign,
+  no_keyword,
+  means_none,
+  means_some,
+  no_meaning,
+  token_no,
+}
 use Rattle.kt_grammar.proofs.parts.Productions.{from_read}
 use Rattle.kt_grammar.proofs.tokens.Witnesses.{parenthesis_ends, a_keyword, keyword_is, sign_is, sign_part, close_then}
 use Rattle.kt_grammar.proofs.tokens.BeforeArrow.{ArrowNext, several_before_arrow}

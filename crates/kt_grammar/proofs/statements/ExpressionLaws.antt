@@ -6,7 +6,19 @@ use Rattle.kt_grammar_parsers.specs.Parsers.{Parser, cursor, some_levels}
 use Rattle.kt_grammar_parsers.specs.Sentences.{OneValue}
 use Rattle.kt_grammar.specs.Statements.{phrases}
 use Rattle.kt_grammar.specs.StatementParser.{parsers}
-use Rattle.kt_grammar.specs.Laws.{SentencesAreRead, ReadsSentences, RefusesFirst, OneExpression, ExpressionIsRead, ExpressionIsRefused, ExpressionReadsExpressions, OneStatement, StatementIsRead, StatementIsRefused, StatementReadsStatements}
+use Rattle.kt_grammar.specs.Laws.{
+  SentencesAreRead,
+  ReadsSentences,
+  RefusesFirst,
+  OneExpression,
+  ExpressionIsRead,
+  ExpressionIsRefused,
+  ExpressionReadsExpressions,
+  OneStatement,
+  StatementIsRead,
+  StatementIsRefused,
+  StatementReadsStatements,
+}
 use Rattle.kt_grammar_parsers.proofs.Steps.{Any}
 use Rattle.kt_grammar_parsers.proofs.On.{Phrase}
 use Rattle.kt_grammar.proofs.parts.Sequences.{Closes, phrase_of}

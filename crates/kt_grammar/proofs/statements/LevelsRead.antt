@@ -10,7 +10,21 @@ use Rattle.kt_grammar.specs.Words.{Empty}
 use Rattle.kt_grammar.specs.Readers.{refuse}
 use Rattle.kt_grammar.specs.Levels.{Phrases, none}
 use Rattle.kt_grammar.specs.declared.context.Context.{Context}
-use Rattle.kt_grammar.specs.Expressions.{IsPart, IsParameter, IsLambda, IsPrefixed, IsCast, IsMultiplicative, IsAdditive, IsInfix, IsTest, IsComparison, IsEquality, IsConjunction, IsDisjunction}
+use Rattle.kt_grammar.specs.Expressions.{
+  IsPart,
+  IsParameter,
+  IsLambda,
+  IsPrefixed,
+  IsCast,
+  IsMultiplicative,
+  IsAdditive,
+  IsInfix,
+  IsTest,
+  IsComparison,
+  IsEquality,
+  IsConjunction,
+  IsDisjunction,
+}
 use Rattle.kt_grammar.specs.Statements.{IsStatement, IsBody, IsCondition, IsEntry, IsCatchRest, over, phrases}
 use Rattle.kt_grammar.specs.ExpressionParser.{Parsers, prefix_parser, disjunction_parser}
 use Rattle.kt_grammar.specs.StatementParser.{catch_parser, no_parsers, parsers_over, parsers}
@@ -19,13 +33,31 @@ use Rattle.kt_grammar.proofs.tokens.Begins.{kind_begins_expression, kind_begins_
 use Rattle.kt_grammar.proofs.parts.Below.{IsRead, IsExpressionRead, ReadsBelow, condition_levels}
 use Rattle.kt_grammar.proofs.tokens.Distinct.{no_new_line}
 use Rattle.kt_grammar.proofs.parts.Productions.{Production, as_read, from_read}
-use Rattle.kt_grammar.proofs.expressions.OperatorsRead.{Operand, Operands, cast_part, multiplicative_part, additive_part, infix_part, test_part, comparison_part, equality_part, conjunction_part, disjunction_part}
+use Rattle.kt_grammar.proofs.expressions.OperatorsRead.{
+  Operand,
+  Operands,
+  cast_part,
+  multiplicative_part,
+  additive_part,
+  infix_part,
+  test_part,
+  comparison_part,
+  equality_part,
+  conjunction_part,
+  disjunction_part,
+}
 use Rattle.kt_grammar.proofs.expressions.PrefixesRead.{prefixed, room_left}
 use Rattle.kt_grammar.proofs.statements.BodiesRead.{statement_production, body_production}
 use Rattle.kt_grammar.proofs.statements.EntriesRead.{condition_read, entry_read, catch_part}
 use Rattle.kt_grammar.proofs.expressions.StringsRead.{string_part, string_part_begins}
 use Rattle.kt_grammar.proofs.expressions.LambdasRead.{parameter_production, lambda_part, lambda_begins}
-use Rattle.kt_grammar.proofs.expressions.PrimariesRead.{begins_primary, primary_wider, primary_no_minus, primary_no_bang, postfix_production}
+use Rattle.kt_grammar.proofs.expressions.PrimariesRead.{
+  begins_primary,
+  primary_wider,
+  primary_no_minus,
+  primary_no_bang,
+  postfix_production,
+}
 
 -- ---- no level
 

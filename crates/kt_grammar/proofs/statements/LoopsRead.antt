@@ -6,7 +6,16 @@ use Rattle.kt_tree.specs.declared.tokens.Sign.TheVariants as sign
 use Rattle.kt_tree.specs.declared.tokens.Keyword.TheVariants as word
 use Rattle.kt_tree.specs.declared.bodies.RangeOperator.{RangeOperator}
 use Rattle.kt_tree.specs.declared.bodies.RangeOperator.TheVariants as range
-use Rattle.kt_tree.specs.Tokens.{same_sign, same_keyword, kind_is_sign, kind_is_keyword, is_sign, is_keyword, is_new_line, is_identifier}
+use Rattle.kt_tree.specs.Tokens.{
+  same_sign,
+  same_keyword,
+  kind_is_sign,
+  kind_is_keyword,
+  is_sign,
+  is_keyword,
+  is_new_line,
+  is_identifier,
+}
 use Rattle.kt_tree.specs.Bodies as e
 use Rattle.kt_tree.specs.Bodies.{ExpressionTree, StatementTree, BodyTree, BlockTree}
 use Rattle.kt_grammar_parsers.specs.Parsers.{Parser, first, some_levels}

@@ -1,5 +1,30 @@
 -- Statements are read exactly, over what has one level less.
-use Rattle.std.proofs.Common.{◌≡◌, ℕ, suc, ◌<◌, Bool, true, false, ◌&&◌, List, [], ◌∷◌, ◌++◌, length, Option, None, Some, refl, sym, ap, subst, ◌∙◌, inl, inr, ◌⊎◌}
+use Rattle.std.proofs.Common.{
+  ◌≡◌,
+  ℕ,
+  suc,
+  ◌<◌,
+  Bool,
+  true,
+  false,
+  ◌&&◌,
+  List,
+  [],
+  ◌∷◌,
+  ◌++◌,
+  length,
+  Option,
+  None,
+  Some,
+  refl,
+  sym,
+  ap,
+  subst,
+  ◌∙◌,
+  inl,
+  inr,
+  ◌⊎◌,
+}
 use Rattle.std.specs.Prelude.{nat_lt}
 use Rattle.kt_tree.specs.declared.tokens.Token.{Token}
 use Rattle.kt_tree.specs.declared.tokens.TokenKind.{TokenKind}

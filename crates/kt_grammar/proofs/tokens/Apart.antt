@@ -9,7 +9,16 @@ use Rattle.kt_tree.specs.declared.tokens.TokenKind.TheVariants as kind
 use Rattle.kt_tree.specs.declared.tokens.Keyword.{Keyword}
 use Rattle.kt_tree.specs.declared.tokens.Sign.{Sign}
 use Rattle.kt_tree.specs.declared.tokens.SoftKeyword.{SoftKeyword}
-use Rattle.kt_tree.specs.Tokens.{kind_is_soft_keyword, is_soft_keyword, same_sign, same_keyword, kind_is_sign, kind_is_identifier, is_sign, is_identifier}
+use Rattle.kt_tree.specs.Tokens.{
+  kind_is_soft_keyword,
+  is_soft_keyword,
+  same_sign,
+  same_keyword,
+  kind_is_sign,
+  kind_is_identifier,
+  is_sign,
+  is_identifier,
+}
 
 pub same_sign_is : (a b : Sign) → same_sign a b ≡ true → a ≡ b
 unfolding same_sign

@@ -1,5 +1,24 @@
 -- A token that passes a test of its kind fails another.
-use Rattle.std.proofs.Common.{◌≡◌, inl, inr, ◌⊎◌, Bool, true, false, List, [], ◌∷◌, ◌++◌, Option, None, Some, refl, sym, ap, ◌∙◌}
+use Rattle.std.proofs.Common.{
+  ◌≡◌,
+  inl,
+  inr,
+  ◌⊎◌,
+  Bool,
+  true,
+  false,
+  List,
+  [],
+  ◌∷◌,
+  ◌++◌,
+  Option,
+  None,
+  Some,
+  refl,
+  sym,
+  ap,
+  ◌∙◌,
+}
 use Rattle.std.specs.Prelude.{if◌then◌else◌}
 use Rattle.kt_tree.specs.declared.tokens.Token.{Token}
 use Rattle.kt_tree.specs.declared.tokens.TokenKind.{TokenKind}

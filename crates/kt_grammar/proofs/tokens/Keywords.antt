@@ -11,7 +11,15 @@ use Rattle.kt_grammar.specs.Readers.{on_if}
 use Rattle.kt_grammar_parsers.proofs.Steps.{truth}
 use Rattle.kt_grammar.proofs.parts.Sequences.{Part, Anything, Closes}
 use Rattle.kt_grammar.proofs.parts.Choices.{same_part, other_part, on_part, on_if_part}
-use Rattle.kt_grammar.proofs.tokens.Begins.{of_kind, Begins, begins_no, first_yes, seq_begins_with, token_begins_with, either_begins_with}
+use Rattle.kt_grammar.proofs.tokens.Begins.{
+  of_kind,
+  Begins,
+  begins_no,
+  first_yes,
+  seq_begins_with,
+  token_begins_with,
+  either_begins_with,
+}
 use Rattle.kt_grammar.proofs.tokens.Distinct.{kind_keyword, no_keyword}
 use Rattle.kt_grammar.proofs.tokens.Witnesses.{a_keyword, keyword_is}
 use Rattle.kt_grammar.proofs.parts.Productions.{Production, as_part}

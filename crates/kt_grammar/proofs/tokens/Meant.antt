@@ -1,5 +1,26 @@
 -- A token that stands for something, and a choice where there is room.
-use Rattle.std.proofs.Common.{◌≡◌, ◌<◌, List, [], ◌∷◌, ◌++◌, length, Option, None, Some, Ok, Err, refl, sym, ap, subst, ◌∙◌, arith, inl, length-append}
+use Rattle.std.proofs.Common.{
+  ◌≡◌,
+  ◌<◌,
+  List,
+  [],
+  ◌∷◌,
+  ◌++◌,
+  length,
+  Option,
+  None,
+  Some,
+  Ok,
+  Err,
+  refl,
+  sym,
+  ap,
+  subst,
+  ◌∙◌,
+  arith,
+  inl,
+  length-append,
+}
 use Rattle.std.proofs.lemmas.List.{append_cancel_right}
 use Rattle.kt_tree.specs.declared.tokens.Token.{Token}
 use Rattle.kt_grammar_parsers.specs.Parsers.{Cursor, cursor, further}

@@ -10,7 +10,17 @@ use Rattle.kt_tree.specs.declared.tokens.Keyword.{Keyword}
 use Rattle.kt_tree.specs.declared.tokens.Sign.{Sign}
 use Rattle.kt_tree.specs.declared.tokens.Sign.TheVariants as sign
 use Rattle.kt_tree.specs.declared.tokens.SoftKeyword.{SoftKeyword}
-use Rattle.kt_tree.specs.Tokens.{same_sign, same_keyword, is_sign, is_keyword, is_identifier, is_new_line, kind_is_sign, kind_is_identifier, spelling}
+use Rattle.kt_tree.specs.Tokens.{
+  same_sign,
+  same_keyword,
+  is_sign,
+  is_keyword,
+  is_identifier,
+  is_new_line,
+  kind_is_sign,
+  kind_is_identifier,
+  spelling,
+}
 use Rattle.kt_grammar_parsers.specs.Parsers.{Parser, first, ◌>>=◌, ◌>>◌, token, skip}
 use Rattle.kt_grammar_parsers.specs.Phrases.{IsToken, IsSkipped, Seq}
 use Rattle.kt_grammar.proofs.types.TypesRead.{a_sign, a_name}

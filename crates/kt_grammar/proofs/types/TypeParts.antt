@@ -6,12 +6,30 @@ use Rattle.kt_tree.specs.declared.tokens.TokenKind.TheVariants as kind
 use Rattle.kt_tree.specs.declared.tokens.Sign.{Sign}
 use Rattle.kt_tree.specs.declared.tokens.Sign.TheVariants as sign
 use Rattle.kt_tree.specs.declared.tokens.SoftKeyword.TheVariants as soft
-use Rattle.kt_tree.specs.Tokens.{same_sign, kind_is_sign, kind_is_identifier, kind_is_soft_keyword, is_sign, is_identifier, is_soft_keyword}
+use Rattle.kt_tree.specs.Tokens.{
+  same_sign,
+  kind_is_sign,
+  kind_is_identifier,
+  kind_is_soft_keyword,
+  is_sign,
+  is_identifier,
+  is_soft_keyword,
+}
 use Rattle.kt_tree.specs.Types.{TypeTree}
 use Rattle.kt_grammar_parsers.specs.Parsers.{first, some_levels}
 use Rattle.kt_grammar_parsers.specs.Phrases.{IsToken, IsNothing, IsAhead, Seq, Either, FirstOf, MaybeCommaList}
 use Rattle.kt_grammar.specs.Terminals.{name_of}
-use Rattle.kt_grammar.specs.Types.{IsType, IsTypeOver, IsTypeArguments, IsNamedType, IsMaybeNullable, IsBehindTypes, IsSuspend, IsSuspendType, IsInParentheses}
+use Rattle.kt_grammar.specs.Types.{
+  IsType,
+  IsTypeOver,
+  IsTypeArguments,
+  IsNamedType,
+  IsMaybeNullable,
+  IsBehindTypes,
+  IsSuspend,
+  IsSuspendType,
+  IsInParentheses,
+}
 use Rattle.kt_grammar.specs.Readers.{type_parser}
 use Rattle.kt_grammar_parsers.proofs.Correct.{Correct, below, correct, same_language}
 use Rattle.kt_grammar_parsers.proofs.Steps.{Any}

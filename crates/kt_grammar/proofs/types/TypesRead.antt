@@ -1,5 +1,24 @@
 -- Types are read exactly: the parts of which they are made.
-use Rattle.std.proofs.Common.{arith, ◌≡◌, ℕ, zero, suc, Bool, true, false, List, [], ◌∷◌, ◌++◌, length, refl, ap, ◌∙◌, inl, inr}
+use Rattle.std.proofs.Common.{
+  arith,
+  ◌≡◌,
+  ℕ,
+  zero,
+  suc,
+  Bool,
+  true,
+  false,
+  List,
+  [],
+  ◌∷◌,
+  ◌++◌,
+  length,
+  refl,
+  ap,
+  ◌∙◌,
+  inl,
+  inr,
+}
 use Rattle.kt_tree.specs.declared.tokens.Token.{Token}
 use Rattle.kt_tree.specs.declared.tokens.TokenKind.TheVariants as kind
 use Rattle.kt_tree.specs.declared.tokens.Sign.{Sign}
@@ -8,17 +27,58 @@ use Rattle.kt_tree.specs.declared.tokens.SoftKeyword.TheVariants as soft
 use Rattle.kt_tree.specs.Tokens.{same_sign, is_sign, is_identifier, is_soft_keyword, spelling}
 use Rattle.kt_tree.specs.Types.{TypeTree, named, function, nullable, parenthesized, types_of}
 use Rattle.kt_grammar_parsers.specs.Parsers.{some_levels, Parser, first, ◌>>=◌, ◌>>◌, pure, token, on, attempt, ahead}
-use Rattle.kt_grammar_parsers.specs.Phrases.{CommaList, MaybeCommaList, IsNothing, IsToken, IsAhead, Seq, Either, FirstOf, NotReads}
+use Rattle.kt_grammar_parsers.specs.Phrases.{
+  CommaList,
+  MaybeCommaList,
+  IsNothing,
+  IsToken,
+  IsAhead,
+  Seq,
+  Either,
+  FirstOf,
+  NotReads,
+}
 use Rattle.kt_grammar.specs.Terminals.{name_of}
-use Rattle.kt_grammar.specs.Types.{IsTypeArguments, IsNamedType, IsMaybeNullable, IsResult, IsSuspendType, IsBehindTypes, IsInParentheses, IsSuspend, IsTypeOver, IsType}
-use Rattle.kt_grammar.specs.Readers.{commas, maybe_commas, type_arguments, named_type, maybe_nullable, result_type, suspend_type, behind_types, behind_parenthesis, type_over, type_parser}
+use Rattle.kt_grammar.specs.Types.{
+  IsTypeArguments,
+  IsNamedType,
+  IsMaybeNullable,
+  IsResult,
+  IsSuspendType,
+  IsBehindTypes,
+  IsInParentheses,
+  IsSuspend,
+  IsTypeOver,
+  IsType,
+}
+use Rattle.kt_grammar.specs.Readers.{
+  commas,
+  maybe_commas,
+  type_arguments,
+  named_type,
+  maybe_nullable,
+  result_type,
+  suspend_type,
+  behind_types,
+  behind_parenthesis,
+  type_over,
+  type_parser,
+}
 use Rattle.kt_grammar_parsers.proofs.Correct.{Correct, below, correct, same_language}
 use Rattle.kt_grammar.specs.Words.{Empty}
 use Rattle.kt_grammar_parsers.proofs.Bind.{bind_correct}
 use Rattle.kt_grammar_parsers.proofs.Steps.{Any, pure_correct, token_correct}
 use Rattle.kt_grammar_parsers.proofs.On.{Phrase, on_correct}
 use Rattle.kt_grammar_parsers.proofs.Attempt.{attempt_correct}
-use Rattle.kt_grammar_parsers.proofs.Forms.{gives_correct, gives_phrase, ahead_correct, attempt_if_correct, comma_list_correct, comma_list_phrase, maybe_comma_list_correct}
+use Rattle.kt_grammar_parsers.proofs.Forms.{
+  gives_correct,
+  gives_phrase,
+  ahead_correct,
+  attempt_if_correct,
+  comma_list_correct,
+  comma_list_phrase,
+  maybe_comma_list_correct,
+}
 use Rattle.kt_grammar_parsers.proofs.Optional.{not_reads, token_begins, seq_begins, where_token_correct}
 use Rattle.kt_grammar.proofs.tokens.Apart.{signs_apart, identifier_no_sign, soft_no_sign}
 

@@ -2,7 +2,20 @@ use Rattle.std.proofs.Common.{◌≡◌, Some, None, inl, length, sym, ap, subst
 use Rattle.kt_lexer.specs.Texts.{in_string, AreTokensOf}
 use Rattle.kt_lexer.specs.Scanning.{lexeme_of, NamesAreWords, shape_at}
 use Rattle.kt_lexer.proofs.LastTokens.{end_is_last}
-use Rattle.kt_lexer.proofs.Standing.{stands_next, refusal_at, refused_is, ended_tokens_are, ended_only, ended_breaks, refused_here, refused_only, refused_no_tokens, found_names, found_shorter, found_less}
+use Rattle.kt_lexer.proofs.Standing.{
+  stands_next,
+  refusal_at,
+  refused_is,
+  ended_tokens_are,
+  ended_only,
+  ended_breaks,
+  refused_here,
+  refused_only,
+  refused_no_tokens,
+  found_names,
+  found_shorter,
+  found_less,
+}
 use Rattle.kt_lexer.proofs.lexing.tokens_of.Goals as goal
 
 pub passed-front-requires : goal.passed-front-requires

@@ -1,5 +1,6 @@
 use Rattle.std.proofs.Common.{refl}
-use Rattle.kt_parser_steps.proofs.Choosing.{on_if_gives, on_if_passes, on_if_skips}
+use Rattle.kt_parser_steps.proofs.Choosing.{on_if_gives, on_if_passes}
+use Rattle.kt_parser_steps.proofs.Ways.{expects_from}
 use Rattle.kt_parser_declarations.proofs.Items.{goes_on}
 use Rattle.kt_parser_declarations.proofs.modifiers.class_turn.Goals as goal
 
@@ -13,4 +14,4 @@ pub returns-in-Some-soft_keyword_if-2 : goal.returns-in-Some-soft_keyword_if-2
 returns-in-Some-soft_keyword_if-2 c = on_if_passes _ _ _ _ _ _ _ _ refl c.in-None.ensures (on_if_passes _ _ _ _ _ _ _ _ refl c.in-None-soft_keyword_if.ensures (on_if_gives _ _ _ _ _ _ _ _ _ refl c.in-Some-soft_keyword_if-2.ensures (goes_on _ _ c.with-in-Some-soft_keyword_if-2.ensures _)))
 
 pub returns-in-None-soft_keyword_if-2 : goal.returns-in-None-soft_keyword_if-2
-returns-in-None-soft_keyword_if-2 c = on_if_skips _ _ _ _ _ _ _ _ _ _ refl c.in-None.ensures (on_if_skips _ _ _ _ _ _ _ _ _ _ refl c.in-None-soft_keyword_if.ensures (on_if_skips _ _ _ _ _ _ _ _ _ _ refl c.in-None-soft_keyword_if-2.ensures (c.class_keyword_turn.ensures)))
+returns-in-None-soft_keyword_if-2 c = expects_from _ _ _ (on_if_passes _ _ _ _ _ _ _ _ refl c.in-None.ensures (on_if_passes _ _ _ _ _ _ _ _ refl c.in-None-soft_keyword_if.ensures (on_if_passes _ _ _ _ _ _ _ _ refl c.in-None-soft_keyword_if-2.ensures refl))) _ _ c.class_keyword_turn.ensures

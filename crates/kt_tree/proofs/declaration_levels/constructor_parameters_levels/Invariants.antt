@@ -4,4 +4,8 @@ use Rattle.kt_tree.specs.Levels.{counted, constructor_parameter_levels, most}
 use Rattle.kt_tree.proofs.declaration_levels.constructor_parameters_levels.Given as goal
 
 abbrev pub invariant-loop-parameter : goal.invariant-loop-parameter
-invariant-loop-parameter l = max l.most (counted (most (map constructor_parameter_levels (map constructor_parameter_tree (drop l.parameter-index l.parameters))))) ≡ counted (most (map constructor_parameter_levels (map constructor_parameter_tree l.parameters)))
+invariant-loop-parameter l =
+    max l.most
+    (counted (most
+    (map constructor_parameter_levels (map constructor_parameter_tree (drop l.parameter-index l.parameters)))))
+    ≡ counted (most (map constructor_parameter_levels (map constructor_parameter_tree l.parameters)))

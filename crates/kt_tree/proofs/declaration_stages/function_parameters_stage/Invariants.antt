@@ -5,4 +5,6 @@ use Rattle.kt_tree.specs.Stages.{typed_parameter_stage}
 use Rattle.kt_tree.proofs.declaration_stages.function_parameters_stage.Given as goal
 
 abbrev pub invariant-loop-parameter : goal.invariant-loop-parameter
-invariant-loop-parameter l = max l.most (most (map typed_parameter_stage (map typed_parameter_tree (drop l.parameter-index l.parameters)))) ≡ most (map typed_parameter_stage (map typed_parameter_tree l.parameters))
+invariant-loop-parameter l =
+    max l.most (most (map typed_parameter_stage (map typed_parameter_tree (drop l.parameter-index l.parameters))))
+    ≡ most (map typed_parameter_stage (map typed_parameter_tree l.parameters))

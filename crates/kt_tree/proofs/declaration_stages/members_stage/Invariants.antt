@@ -5,4 +5,6 @@ use Rattle.kt_tree.specs.Stages.{member_stage}
 use Rattle.kt_tree.proofs.declaration_stages.members_stage.Given as goal
 
 abbrev pub invariant-loop-member : goal.invariant-loop-member
-invariant-loop-member l = max l.most (most (map member_stage (map member_tree (drop l.member-index l.members)))) ≡ most (map member_stage (map member_tree l.members))
+invariant-loop-member l =
+    max l.most (most (map member_stage (map member_tree (drop l.member-index l.members))))
+    ≡ most (map member_stage (map member_tree l.members))

@@ -5,4 +5,6 @@ use Rattle.kt_tree.specs.Stages.{supertype_stage}
 use Rattle.kt_tree.proofs.declaration_stages.supertypes_stage.Given as goal
 
 abbrev pub invariant-loop-supertype : goal.invariant-loop-supertype
-invariant-loop-supertype l = max l.most (most (map supertype_stage (map supertype_tree (drop l.supertype-index l.supertypes)))) ≡ most (map supertype_stage (map supertype_tree l.supertypes))
+invariant-loop-supertype l =
+    max l.most (most (map supertype_stage (map supertype_tree (drop l.supertype-index l.supertypes))))
+    ≡ most (map supertype_stage (map supertype_tree l.supertypes))

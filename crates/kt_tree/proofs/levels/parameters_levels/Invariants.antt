@@ -4,4 +4,6 @@ use Rattle.kt_tree.specs.Levels.{counted, parameter_levels, most}
 use Rattle.kt_tree.proofs.levels.parameters_levels.Given as goal
 
 abbrev pub invariant-loop-parameter : goal.invariant-loop-parameter
-invariant-loop-parameter l = max l.most (counted (most (map parameter_levels (map parameter_tree (drop l.parameter-index l.parameters))))) ≡ counted (most (map parameter_levels (map parameter_tree l.parameters)))
+invariant-loop-parameter l =
+    max l.most (counted (most (map parameter_levels (map parameter_tree (drop l.parameter-index l.parameters)))))
+    ≡ counted (most (map parameter_levels (map parameter_tree l.parameters)))

@@ -1,0 +1,2 @@
+pub mod TextsAscii
+pub mod Times

@@ -1,0 +1,12 @@
+use Rattle.std.proofs.Common.{◌≡◌, ◌-◌, map}
+use Rattle.jvm_class_formats.specs.Formats.{times_at}
+use Rattle.jvm_class_formats.specs.Reads.{in_front}
+use Rattle.jvm_class_grammar.specs.Grammar as grammar
+use Rattle.jvm_class_types.specs.Seen.{field_seen}
+use Rattle.jvm_class_types.specs.declared.classes.Field.{Field}
+use Rattle.class_reader_members.proofs.fields.some_fields.Given as goal
+
+abbrev pub invariant-loop-i : goal.invariant-loop-i
+invariant-loop-i l =
+    in_front (map field_seen l.fields.items) (times_at (grammar.field l.pool) (l.count - l.i) l.spot)
+    ≡ times_at (grammar.field l.pool) l.count l.initial.spot

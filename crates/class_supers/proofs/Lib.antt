@@ -1,0 +1,4 @@
+mod Marks
+mod Searching
+pub mod Rows
+mod LeadingBack

@@ -1,0 +1,9 @@
+use Rattle.std.proofs.lemmas.Bool.Decides.{Decides-eqb}
+use Rattle.std.proofs.lemmas.Slice.Eq.{strip_prefix_is}
+use Rattle.jvm_pool.proofs.Prefixes.{behind_is}
+use Rattle.jvm_class_start.proofs.types.behind_prefix.Goals as goal
+
+pub returns : goal.returns
+returns c =
+    behind_is c.args.prefix.now c.args.bytes.now c.strip_prefix.result (strip_prefix_is Decides-eqb c.args.bytes.now
+        c.args.prefix.now c.strip_prefix.result c.strip_prefix.ensures.cases)

@@ -1,0 +1,15 @@
+pub mod Tests
+pub mod Subtypes
+pub mod Deciding
+pub mod Choosing
+pub mod Expressions
+pub mod Blocks
+pub mod Statements
+pub mod Access
+pub mod Loops
+pub mod Whens
+pub mod Checked
+pub mod Files
+pub mod Settled
+pub mod OneOfTwo
+pub mod Present

@@ -1,0 +1,12 @@
+pub mod Subtypes
+pub mod Outcomes
+pub mod Choosing
+pub mod Expressions
+pub mod Blocks
+pub mod Statements
+pub mod Access
+pub mod Loops
+pub mod Whens
+pub mod Checked
+pub mod Files
+pub mod Laws

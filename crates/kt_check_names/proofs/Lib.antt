@@ -1,0 +1,4 @@
+pub mod InScopes
+pub mod SameRows
+pub mod LocalRead
+pub mod Declares

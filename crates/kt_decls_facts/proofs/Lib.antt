@@ -1,0 +1,3 @@
+mod Linking
+mod MeantSo
+pub mod Split

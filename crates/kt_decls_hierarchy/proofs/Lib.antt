@@ -1,0 +1,4 @@
+mod ComingRight
+pub mod Completed
+mod Naming
+pub mod Known

@@ -1,0 +1,12 @@
+pub mod Noted
+pub mod Ranges
+pub mod Decided
+pub mod Owners
+pub mod Judged
+pub mod Lights
+pub mod Lengths
+pub mod Walks
+pub mod Steps
+pub mod Walked
+pub mod Directs
+pub mod Answered
