@@ -1,0 +1,9 @@
+//! What linking knows of each class, by its names: those of the machine, the two of arrays, and those of class files.
+#![tactic(auto)]
+
+pub mod headers;
+pub mod making;
+pub mod places;
+
+pub use headers::{FieldHeader, Header, MethodHeader};
+pub use making::all_headers;

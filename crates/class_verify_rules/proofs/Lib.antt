@@ -1,0 +1,3 @@
+mod Faults
+mod Rejected
+mod Accepted

@@ -1,0 +1,5 @@
+use Rattle.class_verify_rules.proofs.Faults as lemma
+use Rattle.class_verify_rules.proofs.laws.each_is_typed.Goals as goal
+
+pub returns : goal.returns
+returns c = lemma.each_is_typed

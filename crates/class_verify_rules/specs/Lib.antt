@@ -1,0 +1,10 @@
+pub mod Kinds
+pub mod Moves
+pub mod Acts
+pub mod Bodies
+pub mod Frames
+pub mod Typing
+pub mod Turns
+pub mod Verified
+pub mod Laws
+pub mod Examples
