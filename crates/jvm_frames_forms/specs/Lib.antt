@@ -1,0 +1,2 @@
+pub mod FormsSeen
+pub mod KindsSeen
