@@ -38,12 +38,7 @@ fn told(unit: &TypedUnit) -> Answer {
 }
 
 /// A function of `println()`, so often, on a line.
-fn add_prints(
-    alloc: Global,
-    unit: &mut TypedUnit,
-    line: u32,
-    count: u32,
-) -> Result<(), NoMemory> {
+fn add_prints(alloc: Global, unit: &mut TypedUnit, line: u32, count: u32) -> Result<(), NoMemory> {
     let header = function_header(alloc, line, 1, 0, 0)?;
     let statements = prints(alloc, line, count)?;
     let body = plain_body(alloc, statements);
@@ -121,10 +116,7 @@ fn of_lambda(alloc: Global, wide: TypedFun) -> Result<Answer, NoMemory> {
 }
 
 /// `main` of these statements.
-fn of_statements(
-    alloc: Global,
-    statements: Items<TypedStatement>,
-) -> Result<Answer, NoMemory> {
+fn of_statements(alloc: Global, statements: Items<TypedStatement>) -> Result<Answer, NoMemory> {
     let mut unit = empty(alloc);
     let body = plain_body(alloc, statements);
     add_function(&mut unit, 0, function_header(alloc, 1, 4, 0, 0)?, body)?;
@@ -325,7 +317,10 @@ fn classes_are_as_told(rt: HostRuntime) -> Result<(), Fail> {
     }
     for row in class_rows() {
         let (parameters, length, statements, expected) = *row;
-        assert_eq!(rt; of_class(rt.alloc(), parameters, length, statements)?, expected);
+        assert_eq!(rt;
+            of_class(rt.alloc(), parameters, length, statements)?,
+            expected
+        );
     }
     Ok(())
 }

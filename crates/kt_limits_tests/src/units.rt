@@ -76,7 +76,9 @@ pub fn add_function(
 ) -> Result<(), NoMemory> {
     unit.headers.functions.push(header)?;
     unit.functions.push(body)?;
-    unit.headers.order.push(DeclarationNumber::Function(number))?;
+    unit.headers
+        .order
+        .push(DeclarationNumber::Function(number))?;
     Ok(())
 }
 
@@ -158,11 +160,7 @@ fn class_parameters(alloc: Global, count: u32) -> Result<Items<ClassParameter>, 
 
 /// The class on line 1, with so many parameters that declare properties, and on lines 2 and 3 a property of the body, with
 /// a name of so many letters, and a function.
-fn class_header(
-    alloc: Global,
-    parameters: u32,
-    length: usize,
-) -> Result<DeclaredClass, NoMemory> {
+fn class_header(alloc: Global, parameters: u32, length: usize) -> Result<DeclaredClass, NoMemory> {
     let mut properties = Items::new(alloc);
     properties.push(DeclaredProperty {
         at: Pos { line: 2, column: 5 },
@@ -207,7 +205,9 @@ pub fn add_class(
         constructor: Some(constructor),
         functions,
     })?;
-    unit.headers.classes.push(class_header(alloc, parameters, length)?)?;
+    unit.headers
+        .classes
+        .push(class_header(alloc, parameters, length)?)?;
     unit.headers.order.push(DeclarationNumber::Class(0))?;
     Ok(())
 }
