@@ -1,0 +1,2 @@
+//! Parts of a class file judged by what they hold.
+#![tactic(auto)]

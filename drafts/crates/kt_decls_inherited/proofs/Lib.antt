@@ -1,0 +1,3 @@
+mod Meant
+mod Ways
+pub mod AsRuled

@@ -1,0 +1,3 @@
+pub mod Activation
+pub mod Turns
+pub mod Courses
