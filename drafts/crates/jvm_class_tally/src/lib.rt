@@ -1,2 +1,0 @@
-//! Parts of a class file judged by what they hold.
-#![tactic(auto)]

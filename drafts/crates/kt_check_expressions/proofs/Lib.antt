@@ -1,2 +1,0 @@
-pub mod SameKind
-pub mod FirstPair

@@ -1,3 +1,0 @@
-mod Meant
-mod Ways
-pub mod AsRuled

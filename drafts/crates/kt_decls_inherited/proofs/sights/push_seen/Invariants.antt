@@ -1,8 +1,0 @@
-use Rattle.std.specs.Prelude.{ℕ, ◌≡◌, ◌++◌, map, drop}
-use Rattle.kt_types_tree.specs.Types.{forms_of, type_form}
-use Rattle.kt_decls_inherited.specs.Sights.{seen, sight_form}
-use Rattle.kt_decls_inherited.proofs.sights.push_seen.Given as goal
-
-abbrev pub invariant-loop-sight : goal.invariant-loop-sight
-invariant-loop-sight l = (class : ℕ) →
-    map sight_form l.done ++ map (seen (record { class = class; arguments = forms_of (map type_form l.arguments) })) (map sight_form (drop l.sight-index l.sights)) ≡ map sight_form l.fn.done ++ map (seen (record { class = class; arguments = forms_of (map type_form l.arguments) })) (map sight_form l.sights)

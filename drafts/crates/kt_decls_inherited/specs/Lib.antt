@@ -1,3 +1,0 @@
-pub mod Sights
-pub mod Known
-pub mod Rows

@@ -1,3 +1,0 @@
-pub mod Activation
-pub mod Turns
-pub mod Courses
