@@ -76,7 +76,7 @@ body_keeps at = record {
   instructions = each_stands at;
   handlers = λ k x h. absurd (not_none x h);
   frames = λ k x h. absurd (not_none x h);
-  whole = λ e. record { some = tt; room = lit≤ tt };
+  whole = λ e. record { some = tt; room = lit≤ tt; ascending = (lit≤ tt, (lit≤ tt, tt)); in_order = tt };
 }
 
 method_stands : MethodStands (example shortest) (main_class shortest) (main_method shortest)

@@ -141,7 +141,7 @@ module _ (i : Instr) (end : ℕ) (later : 3 < end) where
       instructions = tick_stands;
       handlers = λ k x h. absurd (not_none x h);
       frames = λ k x h. absurd (not_none x h);
-      whole = λ e. record { some = tt; room = lit≤ tt };
+      whole = λ e. record { some = tt; room = lit≤ tt; ascending = (lit≤ tt, (lit≤ tt, (omega (arith, later), tt))); in_order = tt };
     },
   )
   kept_before (suc o) lt = (

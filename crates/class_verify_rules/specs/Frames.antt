@@ -14,7 +14,7 @@ use Rattle.class_linked.specs.declared.constants.MethodMention.{MethodMention}
 use Rattle.class_linked.specs.declared.methods.LinkedMethod.{LinkedMethod}
 use Rattle.class_linked.specs.declared.code.LinkedFrame.{LinkedFrame}
 use Rattle.class_linked.specs.declared.classes.Linked.{Linked}
-use Rattle.class_verify_rules.specs.Kinds.{AllFit, is_fresh, is_fresh_this, kind_of, spread, width}
+use Rattle.class_verify_rules.specs.Kinds.{AllFit, fits, operand_fits, is_fresh, is_fresh_this, kind_of, spread, width}
 use Rattle.class_verify_rules.specs.Moves.{Size, One, Two, Neither, moved}
 use Rattle.class_verify_rules.specs.Acts.{Act, Operate, Push, PushLong, Load, Store, Change, Move, Length, Go, Leave, GetField, PutField, Call, CallInterface, Make, MakeObjects, Cast, Test, Refused, Sort, Ints, Longs, References, act, an_object, object_array}
 use Rattle.class_verify_rules.specs.Bodies.{Body, then_get, list_of, arguments, is_constructor, constant_at, class_named, field_named, method_named, interface_method_named, meant, instruction, made_at}
@@ -27,8 +27,8 @@ pub record Frame : Type 0 where
   pub raw : Bool
 
 pub record FrameFits (p : Linked) (f g : Frame) : Type 0 where
-  pub locals : AllFit p f.locals g.locals
-  pub stack : AllFit p f.stack g.stack
+  pub locals : AllFit (fits p) f.locals g.locals
+  pub stack : AllFit (operand_fits p) f.stack g.stack
   pub raw : f.raw ≡ true → g.raw ≡ true
 
 -- ---- the frames that are given

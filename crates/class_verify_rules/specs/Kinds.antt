@@ -1,5 +1,5 @@
 -- Kinds of values, and where one may stand for another (JVMS SE 8 §4.10.1.2).
-use Rattle.std.specs.Prelude.{◌≡◌, ℕ, ◌+◌, ◌==◌, Bool, true, false, List, [], ◌∷◌, Option, Some, None, slice_get}
+use Rattle.std.specs.Prelude.{◌≡◌, ℕ, ◌+◌, ◌==◌, ◌&&◌, Bool, true, false, List, [], ◌∷◌, Option, Some, None, slice_get}
 use Rattle.std.specs.List.{list_any}
 use Rattle.class_linked.specs.declared.kinds.Kind.{Kind}
 use Rattle.class_linked.specs.declared.kinds.Kind.TheVariants.{Top, Int, Long, Null, Object, Fresh, FreshThis}
@@ -43,11 +43,12 @@ fits p (Fresh j) (Fresh k) = j == k
 fits p FreshThis FreshThis = true
 fits p k w = false
 
-abbrev pub AllFit : Linked → List Kind → List Kind → Type 0
-AllFit p [] [] = Unit {0}
-AllFit p (k ∷ ks) (w ∷ ws) = (fits p k w ≡ true) × AllFit p ks ws
-AllFit p [] (w ∷ ws) = ⊥
-AllFit p (k ∷ ks) [] = ⊥
+-- each kind of one list stands so to that of the other
+abbrev pub AllFit : (Kind → Kind → Bool) → List Kind → List Kind → Type 0
+AllFit fit [] [] = Unit {0}
+AllFit fit (k ∷ ks) (w ∷ ws) = (fit k w ≡ true) × AllFit fit ks ws
+AllFit fit [] (w ∷ ws) = ⊥
+AllFit fit (k ∷ ks) [] = ⊥
 
 -- the topmost operands are what is wanted
 abbrev pub TopFits : Linked → List Kind → List Kind → Type 0
@@ -91,6 +92,10 @@ width k = 1
 abbrev pub units : List Kind → ℕ
 units [] = 0
 units (k ∷ ks) = width k + units ks
+
+-- on the operand stack both take as many units, so that no `long` stands for an unknown kind
+abbrev pub operand_fits : Linked → Kind → Kind → Bool
+operand_fits p k w = fits p k w && width k == width w
 
 -- the units of local variables: a `long` takes two
 abbrev pub spread : List Kind → List Kind

@@ -1,5 +1,5 @@
 -- Which classes are verified, and where the first that isn't breaks a rule.
-use Rattle.std.specs.Prelude.{◌≡◌, ◌≢◌, ℕ, zero, suc, ◌<◌, ◌≤◌, ◌⊎◌, ◌==◌, true, List, [], Option, Some, None, All, length, slice_get}
+use Rattle.std.specs.Prelude.{◌≡◌, ◌≢◌, ℕ, zero, suc, ◌<◌, ◌≤◌, ◌⊎◌, ◌==◌, true, List, [], Option, Some, None, All, length, map, slice_get}
 use Rattle.jvm_code_instructions.specs.declared.instr.Instr.{Instr}
 use Rattle.jvm_code_instructions.specs.declared.instr.Instr.TheVariants as instr
 use Rattle.jvm_class_types.specs.declared.flags.ClassFlags.{ClassFlags}
@@ -14,6 +14,7 @@ use Rattle.class_linked.specs.declared.code.LinkedFrame.{LinkedFrame}
 use Rattle.class_linked.specs.declared.code.LinkedHandler.{LinkedHandler}
 use Rattle.class_linked.specs.declared.classes.Linked.{Linked}
 use Rattle.class_linked.specs.declared.classes.LinkedClass.{LinkedClass}
+use Rattle.class_supers.specs.Graph.{Ascends}
 use Rattle.class_verify_rules.specs.Kinds.{class_at, is_below, spread, units}
 use Rattle.class_verify_rules.specs.Bodies.{Body, HasInstruction, arguments, body_at, end_of, instruction, made_at, method_at}
 use Rattle.class_verify_rules.specs.Frames.{Frame, FrameFits, before, declared, entry}
@@ -57,6 +58,9 @@ pub record FrameStands (b : Body) (f : LinkedFrame) : Type 0 where
 pub record BodyStands (b : Body) : Type 0 where
   pub some : IsThere (instruction b 0) (λ i. WhereSome (declared b i.0) (FrameFits b.program (entry b)))
   pub room : length (spread (arguments b.class b.method)) ≤ b.code.max_locals
+  -- instructions stand in the order of their offsets, and so do frames
+  pub ascending : Ascends 0 (map (λ i. i.0) b.code.instructions)
+  pub in_order : Ascends 0 (map (λ f. f.offset) b.code.frames)
 
 -- a constructor gives nothing, and is called on an object that isn't of an interface
 abbrev pub ConstructorStands : LinkedClass → LinkedMethod → Type 0
