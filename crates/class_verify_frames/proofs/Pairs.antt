@@ -1,9 +1,10 @@
 -- Two lists that fit, and each place of them.
 use Rattle.std.proofs.Common.{◌≡◌, ℕ, zero, suc, ◌+◌, ◌-◌, ◌<◌, ◌≤◌, Bool, true, false, List, [], ◌∷◌, ◌++◌, length, drop, replicate, Option, Some, None, refl, sym, ap, ◌∙◌, arith, subst}
+use Rattle.std.proofs.lemmas.List.{reverse-append, map-append}
 use Rattle.std.specs.Prelude.{slice_get, ◌||◌, ◌↔◌, IsTrue, reverse, map}
 use Rattle.std.specs.List.{list_any}
 use Rattle.class_linked.specs.declared.kinds.Kind.{Kind}
-use Rattle.class_linked.specs.declared.kinds.Kind.TheVariants.{Top}
+use Rattle.class_linked.specs.declared.kinds.Kind.TheVariants.{Top, Int, Long, Null, Object, Fresh, FreshThis}
 use Rattle.class_linked.specs.declared.classes.Linked.{Linked}
 use Rattle.class_verify_rules.specs.Kinds.{fits, AllFit, TopFits, units, width}
 use Rattle.class_verify_rules.specs.Frames.{padded}
@@ -38,7 +39,13 @@ module _ (fit : Kind → Kind → Bool) where
 -- ---- local variables: behind those that are told stand some of which nothing is known
 
 pub top_fits : (p : Linked) (k : Kind) → fits p k Top ≡ true
-top_fits p k = elim k [ Top ↦ refl | Int ↦ refl | Long ↦ refl | Null ↦ refl | Object c ↦ refl | Fresh j ↦ refl | FreshThis ↦ refl ]
+top_fits p Top = refl
+top_fits p Int = refl
+top_fits p Long = refl
+top_fits p Null = refl
+top_fits p (Object c) = refl
+top_fits p (Fresh j) = refl
+top_fits p FreshThis = refl
 
 tops_fit : (p : Linked) (ks : List Kind) → AllFit (fits p) ks (replicate (length ks) Top)
 tops_fit p [] = tt
@@ -84,3 +91,9 @@ any_true f ks n k e t = any_here f ks n k e ∙ (rw t refl)
 
 pub any_next : (f : Kind → Bool) (ks : List Kind) (n : ℕ) (k : Kind) → slice_get ks n ≡ Some k → f k ≡ false → list_any f (drop n ks) ≡ list_any f (drop (n + 1) ks)
 any_next f ks n k e t = any_here f ks n k e ∙ (rw t refl)
+
+-- ---- what stands in reverse
+
+pub map_reverse : (f : Kind → Kind) (ks : List Kind) → map f (reverse ks) ≡ reverse (map f ks)
+map_reverse f [] = refl
+map_reverse f (k ∷ ks) = ap (map f) (reverse-append (k ∷ []) ks) ∙ map-append f (reverse ks) (k ∷ []) ∙ ap (λ l. l ++ f k ∷ []) (map_reverse f ks) ∙ sym (reverse-append (f k ∷ []) (map f ks))

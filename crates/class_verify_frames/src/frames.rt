@@ -9,7 +9,7 @@ ghost use Rattle.class_verify_rules.specs.Typing.{caught};
 ghost use Rattle.std.specs.Prelude.{◌≡◌, ◌↔◌, ◌∷◌, ◌++◌, [], IfOk, IsTrue, OnOk, length, map, replicate, true};
 
 use crate::bodies::Body;
-use crate::kinds::{has_fresh_this, kind_of_value, locals_fit, is_operand_for};
+use crate::kinds::{has_fresh_this, is_operand_for, kind_of_value, locals_fit};
 use crate::operands::{Operands, operands_fit};
 use class_linked::{Kind, Linked, LinkedFrame, LinkedHandler, LinkedMethod, Role, ValueKind};
 use jvm_class_types::MethodFlags;
@@ -87,7 +87,8 @@ fn push_receiver(
     class: usize,
     method: &LinkedMethod,
 ) -> Result<(), NoMemory>
-    ensures { OnOk result (locals.new.items ≡ locals.old.items ++ spread (receiver class method.now.flags method.now.role)) }
+    ensures { OnOk result (locals.new.items
+        ≡ locals.old.items ++ spread (receiver class method.now.flags method.now.role)) }
 {
     match method.flags {
         MethodFlags::Static => {}
@@ -152,7 +153,12 @@ pub fn frame_fits(program: &Linked, held: &Frame, given: &LinkedFrame, most: usi
     if !operands_fit(program, &held.stack, given.stack.as_slice()) {
         return false;
     }
-    locals_fit(program, held.locals.as_slice(), given.locals.as_slice(), most)
+    locals_fit(
+        program,
+        held.locals.as_slice(),
+        given.locals.as_slice(),
+        most,
+    )
 }
 
 fn is_alone(program: &Linked, kind: Kind, given: &[Kind]) -> bool
@@ -182,5 +188,10 @@ pub fn caught_fits(
     if !is_alone(program, Kind::Object(handler.catch), given.stack.as_slice()) {
         return false;
     }
-    locals_fit(program, held.locals.as_slice(), given.locals.as_slice(), most)
+    locals_fit(
+        program,
+        held.locals.as_slice(),
+        given.locals.as_slice(),
+        most,
+    )
 }

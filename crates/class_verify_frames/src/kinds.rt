@@ -2,7 +2,8 @@
 
 ghost use Rattle.class_verify_frames.specs.Pairs.{FitsAt};
 ghost use Rattle.class_verify_rules.specs.Frames.{forgotten, padded};
-ghost use Rattle.class_verify_rules.specs.Kinds.{AllFit, fits, is_array, is_array_class, is_below, is_fresh, is_fresh_this, is_reference, kind_of, operand_fits, width};
+ghost use Rattle.class_verify_rules.specs.Kinds.{AllFit, fits, is_array, is_array_class, is_below, is_fresh};
+ghost use Rattle.class_verify_rules.specs.Kinds.{is_fresh_this, is_reference, kind_of, operand_fits, width};
 ghost use Rattle.std.specs.List.{list_any};
 ghost use Rattle.std.specs.Prelude.{◌≡◌, ◌==◌, ◌↔◌, ◌<◌, IsTrue, length};
 
@@ -72,12 +73,8 @@ pub fn width_of(kind: Kind) -> u16
 {
     match kind {
         Kind::Long => 2,
-        Kind::Top
-        | Kind::Int
-        | Kind::Null
-        | Kind::Object(_)
-        | Kind::Fresh(_)
-        | Kind::FreshThis => 1,
+        Kind::Top | Kind::Int | Kind::Null | Kind::Object(_) | Kind::Fresh(_) | Kind::FreshThis =>
+            1,
     }
 }
 
@@ -148,12 +145,8 @@ pub fn is_fresh_at(offset: u32, kind: Kind) -> bool
 {
     match kind {
         Kind::Fresh(made) => offset == made,
-        Kind::Top
-        | Kind::Int
-        | Kind::Long
-        | Kind::Null
-        | Kind::Object(_)
-        | Kind::FreshThis => false,
+        Kind::Top | Kind::Int | Kind::Long | Kind::Null | Kind::Object(_) | Kind::FreshThis =>
+            false,
     }
 }
 
@@ -162,12 +155,7 @@ fn is_this(kind: Kind) -> bool
 {
     match kind {
         Kind::FreshThis => true,
-        Kind::Top
-        | Kind::Int
-        | Kind::Long
-        | Kind::Null
-        | Kind::Object(_)
-        | Kind::Fresh(_) => false,
+        Kind::Top | Kind::Int | Kind::Long | Kind::Null | Kind::Object(_) | Kind::Fresh(_) => false,
     }
 }
 

@@ -4,7 +4,8 @@ ghost use Rattle.class_verify_frames.specs.Pairs.{FitsAt, replaced};
 ghost use Rattle.class_verify_frames.specs.Views.{Took};
 ghost use Rattle.class_verify_rules.specs.Kinds.{AllFit, TopFits, is_fresh, operand_fits, units, width};
 ghost use Rattle.std.specs.List.{list_any};
-ghost use Rattle.std.specs.Prelude.{◌≡◌, ◌↔◌, ◌<◌, ◌≤◌, ◌∷◌, ◌++◌, [], IsTrue, IfOk, MatchOption, OnOk, drop, length, map, reverse, slice_get};
+ghost use Rattle.std.specs.Prelude.{◌≡◌, ◌↔◌, ◌<◌, ◌≤◌, ◌∷◌, ◌++◌, [], IsTrue, IfOk, MatchOption, OnOk, drop, length};
+ghost use Rattle.std.specs.Prelude.{map, reverse, slice_get};
 
 use crate::kinds::{is_fresh_at, is_operand_for, kind_fits, width_of};
 use class_linked::{Kind, Linked};
@@ -120,7 +121,13 @@ pub fn take(program: &Linked, stack: &mut Operands, wanted: Kind) -> bool
 {
     match stack.pop() {
         None => false,
-        Some(kind) => { if kind_fits(program, kind, wanted) { true } else { false } }
+        Some(kind) => {
+            if kind_fits(program, kind, wanted) {
+                true
+            } else {
+                false
+            }
+        }
     }
 }
 

@@ -1,5 +1,5 @@
 -- The sorts of values, as the code names them, and the sizes of operands.
-use Rattle.std.specs.Prelude.{Bool, true, false, ℕ, List, Option, Some, None, ◌≡◌, ◌×◌}
+use Rattle.std.specs.Prelude.{Bool, true, false, ℕ, List, Option, Some, None, ◌≡◌}
 use Rattle.class_verify_rules.specs.Acts.{Sort, Ints, Longs, References}
 use Rattle.class_verify_rules.specs.Moves.{Size, One, Two, Neither}
 use Rattle.class_verify_steps.specs.declared.sorts.LocalSort.{LocalSort}

@@ -1,6 +1,7 @@
 //! The operands of arithmetic.
 
-ghost use Rattle.class_verify_rules.specs.Acts.{Operate, arithmetic, binary, bitwise, convert, divide, negate, shift, unary};
+ghost use Rattle.class_verify_rules.specs.Acts.{Operate, arithmetic, binary, bitwise, convert, divide, negate, shift};
+ghost use Rattle.class_verify_rules.specs.Acts.{unary};
 ghost use Rattle.std.specs.Prelude.{◌≡◌, ◌∷◌, []};
 
 use class_linked::Kind;

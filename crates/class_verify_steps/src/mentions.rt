@@ -1,7 +1,8 @@
 //! What the entries of a constant pool that instructions mention stand for.
 
 ghost use Rattle.class_verify_frames.specs.Views.{body};
-ghost use Rattle.class_verify_rules.specs.Bodies.{class_named, constant_at, field_named, interface_method_named, meant, method_named};
+ghost use Rattle.class_verify_rules.specs.Bodies.{class_named, constant_at, field_named, interface_method_named};
+ghost use Rattle.class_verify_rules.specs.Bodies.{meant, method_named};
 ghost use Rattle.std.specs.Prelude.{◌≡◌, option_copied};
 
 use class_linked::{Constant, FieldMention, Linked, LinkedMethod, MethodMention};

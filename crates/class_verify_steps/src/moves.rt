@@ -36,9 +36,7 @@ fn pop(stack: &mut Operands) -> Result<bool, NoMemory>
         return Ok(false);
     };
     match units_of(a) {
-        Units::One => {
-            Ok(true)
-        }
+        Units::One => { Ok(true) }
         Units::Two => Ok(false),
         Units::Neither => Ok(false),
     }
@@ -57,16 +55,12 @@ fn pop2(stack: &mut Operands) -> Result<bool, NoMemory>
                 return Ok(false);
             };
             match units_of(b) {
-                Units::One => {
-                    Ok(true)
-                }
+                Units::One => { Ok(true) }
                 Units::Two => Ok(false),
                 Units::Neither => Ok(false),
             }
         }
-        Units::Two => {
-            Ok(true)
-        }
+        Units::Two => { Ok(true) }
         Units::Neither => Ok(false),
     }
 }

@@ -10,7 +10,9 @@ ghost use Rattle.std.specs.Prelude.{◌≡◌, ◌↔◌, IfOk, IsTrue};
 use crate::mentions::{class_mention, field_mention};
 use class_linked::{FieldMention, Kind, Linked};
 use class_verify_frames::frames::is_constructing;
-use class_verify_frames::kinds::{is_class_of_arrays, kind_of_value, OBJECT_ARRAY_CLASS, OBJECT_CLASS};
+use class_verify_frames::kinds::{
+    OBJECT_ARRAY_CLASS, OBJECT_CLASS, is_class_of_arrays, kind_of_value,
+};
 use class_verify_frames::operands::{has_fresh, replace, take};
 use class_verify_frames::{Body, Frame};
 use jvm_class_types::ClassFlags;
@@ -18,13 +20,9 @@ use kt_base::NoMemory;
 use sqlite_items::at;
 
 /// Takes an object, and leaves a field of it.
-pub fn get_field(
-    method: &Body,
-    held: &mut Frame,
-    offset: u32,
-    index: u16,
-) -> Result<bool, NoMemory>
-    ensures { IfOk result (λ fine. Steps (body method.now) offset (GetField index) (frame held.old) fine (frame held.new)) }
+pub fn get_field(method: &Body, held: &mut Frame, offset: u32, index: u16) -> Result<bool, NoMemory>
+    ensures { IfOk result (λ fine. Steps (body method.now) offset (GetField index)
+        (frame held.old) fine (frame held.new)) }
 {
     match field_mention(method, index) {
         None => Ok(false),
@@ -95,12 +93,7 @@ fn may_be_made(program: &Linked, class: usize) -> bool
 }
 
 /// Makes an object that isn't initialized: older ones of the same instruction are used no more.
-pub fn make(
-    method: &Body,
-    held: &mut Frame,
-    offset: u32,
-    index: u16,
-) -> Result<bool, NoMemory>
+pub fn make(method: &Body, held: &mut Frame, offset: u32, index: u16) -> Result<bool, NoMemory>
     ensures { IfOk result (λ fine. Steps (body method.now) offset (Make index) (frame held.old) fine (frame held.new)) }
 {
     match class_mention(method, index) {
@@ -126,7 +119,8 @@ pub fn make_objects(
     offset: u32,
     index: u16,
 ) -> Result<bool, NoMemory>
-    ensures { IfOk result (λ fine. Steps (body method.now) offset (MakeObjects index) (frame held.old) fine (frame held.new)) }
+    ensures { IfOk result (λ fine. Steps (body method.now) offset (MakeObjects index)
+        (frame held.old) fine (frame held.new)) }
 {
     match class_mention(method, index) {
         None => Ok(false),
@@ -144,12 +138,7 @@ pub fn make_objects(
 }
 
 /// Throws where an object is not of a class.
-pub fn cast(
-    method: &Body,
-    held: &mut Frame,
-    offset: u32,
-    index: u16,
-) -> Result<bool, NoMemory>
+pub fn cast(method: &Body, held: &mut Frame, offset: u32, index: u16) -> Result<bool, NoMemory>
     ensures { IfOk result (λ fine. Steps (body method.now) offset (Cast index) (frame held.old) fine (frame held.new)) }
 {
     match class_mention(method, index) {
@@ -165,12 +154,7 @@ pub fn cast(
 }
 
 /// Tells if an object is of a class.
-pub fn test(
-    method: &Body,
-    held: &mut Frame,
-    offset: u32,
-    index: u16,
-) -> Result<bool, NoMemory>
+pub fn test(method: &Body, held: &mut Frame, offset: u32, index: u16) -> Result<bool, NoMemory>
     ensures { IfOk result (λ fine. Steps (body method.now) offset (Test index) (frame held.old) fine (frame held.new)) }
 {
     match class_mention(method, index) {

@@ -1,10 +1,10 @@
 //! The sorts of values that local variables and returns have.
 
-ghost use Rattle.class_verify_rules.specs.Acts.{Leave, Load, Store, fixed_load, fixed_store, leave, load, store};
+ghost use Rattle.class_verify_rules.specs.Acts.{Leave, Load, Store, fixed_load, fixed_store, leave};
 ghost use Rattle.class_verify_steps.specs.Sorts.{sort_of};
-ghost use Rattle.std.specs.Prelude.{◌≡◌, ℕ, option_map};
+ghost use Rattle.std.specs.Prelude.{◌≡◌, option_map};
 
-use jvm_code_opcodes::{FixedLoad, FixedStore, LoadOp, ReturnOp, StoreOp};
+use jvm_code_opcodes::{FixedLoad, FixedStore, ReturnOp};
 
 /// The sort of value that a local variable, or a return, has.
 #[derive(Clone, Copy)]
@@ -12,28 +12,6 @@ pub enum LocalSort {
     Int,
     Long,
     Reference,
-}
-
-/// What a load pushes.
-pub fn loaded_sort(op: LoadOp) -> LocalSort
-    ensures { (x : ℕ) → load op x ≡ Load (sort_of result) x }
-{
-    match op {
-        LoadOp::Iload => LocalSort::Int,
-        LoadOp::Lload => LocalSort::Long,
-        LoadOp::Aload => LocalSort::Reference,
-    }
-}
-
-/// What a store takes.
-pub fn stored_sort(op: StoreOp) -> LocalSort
-    ensures { (x : ℕ) → store op x ≡ Store (sort_of result) x }
-{
-    match op {
-        StoreOp::Istore => LocalSort::Int,
-        StoreOp::Lstore => LocalSort::Long,
-        StoreOp::Astore => LocalSort::Reference,
-    }
 }
 
 /// What a load pushes whose opcode names the local variable, and which that is.

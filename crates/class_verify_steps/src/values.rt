@@ -9,12 +9,15 @@ ghost use Rattle.class_verify_rules.specs.Kinds.{fits, is_reference, kind_of};
 ghost use Rattle.class_verify_rules.specs.Typing.{IsLoadable, IsLong, IsOfSort, IsThere};
 ghost use Rattle.class_verify_steps.specs.Sorts.{sort_of};
 ghost use Rattle.class_verify_steps.specs.Stepping.{Steps};
-ghost use Rattle.std.specs.Prelude.{◌≡◌, ◌↔◌, ◌⊎◌, ℕ, List, Bool, IfOk, IsTrue, MatchOption, None, Some, option_map, slice_get, true};
+ghost use Rattle.std.specs.Prelude.{◌≡◌, ◌↔◌, ◌⊎◌, ℕ, List, Bool, IfOk, IsTrue, MatchOption, None, Some, option_map};
+ghost use Rattle.std.specs.Prelude.{slice_get, true};
 
 use crate::moves::move_operands;
 use crate::sorts::LocalSort;
 use class_linked::{Constant, Kind};
-use class_verify_frames::kinds::{is_array_kind, is_reference_kind, kind_fits, kind_of_value, OBJECT_CLASS, STRING_CLASS};
+use class_verify_frames::kinds::{
+    OBJECT_CLASS, STRING_CLASS, is_array_kind, is_reference_kind, kind_fits, kind_of_value,
+};
 use class_verify_frames::locals::{store, store_long};
 use class_verify_frames::operands::{take, take_all};
 use class_verify_frames::{Body, Frame};
@@ -30,7 +33,8 @@ pub fn operate(
     wanted: &[Kind],
     given: Option<Kind>,
 ) -> Result<bool, NoMemory>
-    ensures { IfOk result (λ fine. Steps (body method.now) offset (Operate wanted.now (list_of given)) (frame held.old) fine (frame held.new)) }
+    ensures { IfOk result (λ fine. Steps (body method.now) offset (Operate wanted.now (list_of given))
+        (frame held.old) fine (frame held.new)) }
 {
     if !take_all(method.program, &mut held.stack, wanted) {
         return Ok(false);
@@ -43,13 +47,20 @@ pub fn operate(
 
 /// Takes operands, and goes to other places.
 pub fn go(method: &Body, held: &mut Frame, offset: u32, wanted: &[Kind]) -> bool
-    ensures { (to : List ℕ) (on : Bool) → Steps (body method.now) offset (Go wanted.now to on) (frame held.old) result (frame held.new) }
+    ensures { (to : List ℕ) (on : Bool) → Steps (body method.now) offset (Go wanted.now to on)
+        (frame held.old) result (frame held.new) }
 {
-    if take_all(method.program, &mut held.stack, wanted) { true } else { false }
+    if take_all(method.program, &mut held.stack, wanted) {
+        true
+    } else {
+        false
+    }
 }
 
 fn constant_kind_of(method: &Body, index: u16) -> Option<Kind>
-    ensures { MatchOption result (IsLoadable (constant_at (body method.now) index) → ⊥) (λ kind. IsLoadable (constant_at (body method.now) index) × (kind ≡ constant_kind (constant_at (body method.now) index))) }
+    ensures { MatchOption result (IsLoadable (constant_at (body method.now) index) →
+        ⊥) (λ kind. IsLoadable (constant_at (body method.now) index)
+        × (kind ≡ constant_kind (constant_at (body method.now) index))) }
 {
     match at(method.constants, index as usize) {
         None => None,
@@ -103,13 +114,9 @@ fn is_long_constant(method: &Body, index: u16) -> bool
 }
 
 /// Pushes a `long` of the constant pool.
-pub fn push_long(
-    method: &Body,
-    held: &mut Frame,
-    offset: u32,
-    index: u16,
-) -> Result<bool, NoMemory>
-    ensures { IfOk result (λ fine. Steps (body method.now) offset (PushLong index) (frame held.old) fine (frame held.new)) }
+pub fn push_long(method: &Body, held: &mut Frame, offset: u32, index: u16) -> Result<bool, NoMemory>
+    ensures { IfOk result (λ fine. Steps (body method.now) offset (PushLong index)
+        (frame held.old) fine (frame held.new)) }
 {
     if !is_long_constant(method, index) {
         return Ok(false);
@@ -120,7 +127,9 @@ pub fn push_long(
 
 /// The kind that a load of a local variable pushes: `None` exactly where it isn't of that sort.
 fn loaded_kind(locals: &[Kind], sort: LocalSort, local: usize) -> Option<Kind>
-    ensures { MatchOption result (IsOfSort (sort_of sort) (slice_get locals.now local) → ⊥) (λ kind. IsOfSort (sort_of sort) (slice_get locals.now local) × (kind ≡ loaded (sort_of sort) locals.now local)) }
+    ensures { MatchOption result (IsOfSort (sort_of sort) (slice_get locals.now local) →
+        ⊥) (λ kind. IsOfSort (sort_of sort) (slice_get locals.now local)
+        × (kind ≡ loaded (sort_of sort) locals.now local)) }
 {
     match at(locals, local) {
         None => None,
@@ -133,7 +142,13 @@ fn loaded_kind(locals: &[Kind], sort: LocalSort, local: usize) -> Option<Kind>
                 Kind::Long => Some(*kind),
                 _ => None,
             },
-            LocalSort::Reference => { if is_reference_kind(*kind) { Some(*kind) } else { None } }
+            LocalSort::Reference => {
+                if is_reference_kind(*kind) {
+                    Some(*kind)
+                } else {
+                    None
+                }
+            }
         },
     }
 }
@@ -146,7 +161,8 @@ pub fn load(
     sort: LocalSort,
     local: usize,
 ) -> Result<bool, NoMemory>
-    ensures { IfOk result (λ fine. Steps (body method.now) offset (Load (sort_of sort) local) (frame held.old) fine (frame held.new)) }
+    ensures { IfOk result (λ fine. Steps (body method.now) offset (Load (sort_of sort) local)
+        (frame held.old) fine (frame held.new)) }
 {
     match loaded_kind(held.locals.as_slice(), sort, local) {
         None => Ok(false),
@@ -231,12 +247,7 @@ pub fn change(method: &Body, held: &mut Frame, offset: u32, local: usize) -> boo
 }
 
 /// Drops, copies or swaps operands.
-pub fn shuffle(
-    method: &Body,
-    held: &mut Frame,
-    offset: u32,
-    op: StackOp,
-) -> Result<bool, NoMemory>
+pub fn shuffle(method: &Body, held: &mut Frame, offset: u32, op: StackOp) -> Result<bool, NoMemory>
     ensures { IfOk result (λ fine. Steps (body method.now) offset (Move op) (frame held.old) fine (frame held.new)) }
 {
     if !move_operands(op, &mut held.stack)? {
@@ -297,7 +308,11 @@ fn leave_int(method: &Body, held: &mut Frame, offset: u32) -> bool
     if !gives_kind(method, Kind::Int) {
         return false;
     }
-    if take(method.program, &mut held.stack, Kind::Int) { true } else { false }
+    if take(method.program, &mut held.stack, Kind::Int) {
+        true
+    } else {
+        false
+    }
 }
 
 fn leave_long(method: &Body, held: &mut Frame, offset: u32) -> bool
@@ -306,11 +321,16 @@ fn leave_long(method: &Body, held: &mut Frame, offset: u32) -> bool
     if !gives_kind(method, Kind::Long) {
         return false;
     }
-    if take(method.program, &mut held.stack, Kind::Long) { true } else { false }
+    if take(method.program, &mut held.stack, Kind::Long) {
+        true
+    } else {
+        false
+    }
 }
 
 fn gives_reference(method: &Body, kind: Kind) -> bool
-    ensures { IsTrue result ↔ IsThere method.now.method.now.result (λ r. (is_reference (kind_of r) ≡ true) × (fits method.now.program.now kind (kind_of r) ≡ true)) }
+    ensures { IsTrue result ↔ IsThere method.now.method.now.result (λ r. (is_reference (kind_of r) ≡ true)
+        × (fits method.now.program.now kind (kind_of r) ≡ true)) }
 {
     match method.method.result {
         None => false,
@@ -330,14 +350,19 @@ fn leave_reference(method: &Body, held: &mut Frame, offset: u32) -> bool
             if !kind_fits(method.program, kind, Kind::Object(OBJECT_CLASS)) {
                 return false;
             }
-            if gives_reference(method, kind) { true } else { false }
+            if gives_reference(method, kind) {
+                true
+            } else {
+                false
+            }
         }
     }
 }
 
 /// Leaves the method.
 pub fn leave(method: &Body, held: &mut Frame, offset: u32, sort: Option<LocalSort>) -> bool
-    ensures { Steps (body method.now) offset (Leave (option_map sort_of sort)) (frame held.old) result (frame held.new) }
+    ensures { Steps (body method.now) offset (Leave (option_map sort_of sort))
+        (frame held.old) result (frame held.new) }
 {
     match sort {
         None => leave_nothing(method, held, offset),
