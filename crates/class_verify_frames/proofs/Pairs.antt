@@ -57,8 +57,8 @@ padded_fit p [] (w ∷ ws) m e h = absurd (omega (arith, e))
 padded_fit p (k ∷ ks) (w ∷ ws) m e h =
     (one_fits (fits p) k w ks ws (h 0 (omega arith)), padded_fit p ks ws m (omega (arith, e)) (λ i l. h (suc i) (omega (arith, l))))
 
-pub padded_from : (p : Linked) (ks ws : List Kind) (most : ℕ) → length ks ≡ most → length ws ≤ most → ((i : ℕ) → i < length ws → FitsAt (fits p) ks ws i) → AllFit (fits p) ks (padded most ws)
-padded_from p ks ws most e l h = padded_fit p ks ws (most - length ws) (omega (arith, e, l)) h
+pub padded_from : (p : Linked) (ks ws : List Kind) (most : ℕ) → length ks ≡ length ws + (most - length ws) → ((i : ℕ) → i < length ws → FitsAt (fits p) ks ws i) → AllFit (fits p) ks (padded most ws)
+padded_from p ks ws most e h = padded_fit p ks ws (most - length ws) e h
 
 pub padded_at : (p : Linked) (ks ws t : List Kind) (i : ℕ) → AllFit (fits p) ks (ws ++ t) → i < length ws → FitsAt (fits p) ks ws i
 padded_at p ks [] t i h l = absurd (omega (arith, l))
@@ -66,12 +66,16 @@ padded_at p [] (w ∷ ws) t i h l = absurd h
 padded_at p (k ∷ ks) (w ∷ ws) t zero h l = (k, w, refl, refl, h.0)
 padded_at p (k ∷ ks) (w ∷ ws) t (suc i) h l = padded_at p ks ws t i h.1 (omega (arith, l))
 
-long_front : (ws t : List Kind) → length ws ≤ length (ws ++ t)
-long_front [] t = omega arith
-long_front (w ∷ ws) t = omega (arith, long_front ws t)
+tops_long : (m : ℕ) → length (replicate m Top) ≡ m
+tops_long zero = refl
+tops_long (suc m) = omega (arith, tops_long m)
 
-pub padded_long : (p : Linked) (ks ws : List Kind) (most : ℕ) → AllFit (fits p) ks (padded most ws) → length ks ≡ most → length ws ≤ most
-padded_long p ks ws most h e = omega (arith, e, all_long (fits p) ks (padded most ws) h, long_front ws (replicate (most - length ws) Top))
+padded_length : (ws : List Kind) (m : ℕ) → length (ws ++ replicate m Top) ≡ length ws + m
+padded_length [] m = omega (arith, tops_long m)
+padded_length (w ∷ ws) m = omega (arith, padded_length ws m)
+
+pub padded_long : (p : Linked) (ks ws : List Kind) (most : ℕ) → AllFit (fits p) ks (padded most ws) → length ks ≡ length ws + (most - length ws)
+padded_long p ks ws most h = all_long (fits p) ks (padded most ws) h ∙ padded_length ws (most - length ws)
 
 -- ---- operands that are taken
 

@@ -6,7 +6,7 @@ ghost use Rattle.class_verify_rules.specs.Frames.{FrameFits, entry, padded, show
 ghost use Rattle.class_verify_rules.specs.Kinds.{AllFit, is_fresh_this, kind_of, operand_fits, spread};
 ghost use Rattle.std.specs.List.{list_any};
 ghost use Rattle.class_verify_rules.specs.Typing.{caught};
-ghost use Rattle.std.specs.Prelude.{◌≡◌, ◌↔◌, ◌∷◌, ◌++◌, [], IfOk, IsTrue, OnOk, length, map, replicate, true};
+ghost use Rattle.std.specs.Prelude.{◌≡◌, ◌↔◌, ◌∷◌, ◌++◌, [], IfOk, IsTrue, OnOk, map, replicate, true};
 
 use crate::bodies::Body;
 use crate::kinds::{has_fresh_this, is_operand_for, kind_of_value, locals_fit};
@@ -144,7 +144,6 @@ fn raw_fits(raw: bool, given: &[Kind]) -> bool
 
 /// Whether a frame fits into one that a class file has.
 pub fn frame_fits(program: &Linked, held: &Frame, given: &LinkedFrame, most: usize) -> bool
-    requires { length held.now.locals.items ≡ most }
     ensures { IsTrue result ↔ FrameFits program.now (frame held.now) (shown most given.now) }
 {
     if !raw_fits(held.raw, given.locals.as_slice()) {
@@ -179,7 +178,6 @@ pub fn caught_fits(
     given: &LinkedFrame,
     most: usize,
 ) -> bool
-    requires { length held.now.locals.items ≡ most }
     ensures { IsTrue result ↔ FrameFits program.now (caught (frame held.now) handler.now) (shown most given.now) }
 {
     if !raw_fits(held.raw, given.locals.as_slice()) {

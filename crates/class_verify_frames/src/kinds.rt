@@ -96,11 +96,11 @@ fn local_fits_at(program: &Linked, kinds: &[Kind], wanted: &[Kind], place: usize
 /// Whether each local variable may stand for the one that is wanted: behind those that are told nothing is wanted.
 #[tactic(auto, using(crate::proofs::Pairs::padded_from, crate::proofs::Pairs::padded_long))]
 pub fn locals_fit(program: &Linked, kinds: &[Kind], wanted: &[Kind], most: usize) -> bool
-    requires { length kinds.now ≡ most }
     ensures { IsTrue result ↔ AllFit (fits program.now) kinds.now (padded most wanted.now) }
 {
     let count = wanted.len();
-    if count > most {
+    let rest = most.saturating_sub(count);
+    if kinds.len() != count + rest {
         return false;
     }
     for place in 0..count {

@@ -1,0 +1,4 @@
+pub mod Deciding
+pub mod Leading
+pub mod Starting
+pub mod Walk
