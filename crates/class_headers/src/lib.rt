@@ -4,6 +4,8 @@
 pub mod headers;
 pub mod making;
 pub mod places;
+pub mod table;
 
 pub use headers::{FieldHeader, Header, MethodHeader};
 pub use making::all_headers;
+pub use table::ClassTable;

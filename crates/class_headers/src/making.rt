@@ -9,6 +9,7 @@ ghost use Rattle.jvm_runtime.specs.Classes.{runtime_classes};
 ghost use Rattle.std.specs.Str.{IsAscii};
 
 use crate::headers::{FieldHeader, Header, MethodHeader};
+use crate::table::ClassTable;
 use jvm_class_types::{ClassFile, ClassFlags, Field, Method};
 use jvm_runtime::{RuntimeClass, RuntimeField, RuntimeMethod, runtime_classes};
 use kt_base::{Name, NoMemory};
@@ -188,12 +189,12 @@ fn headers_of_own(alloc: Global) -> Result<Items<Header>, NoMemory>
 }
 
 /// The headers of all classes: those of the machine, the two of arrays, and those of class files, in order.
-pub fn all_headers(alloc: Global, classes: &[ClassFile]) -> Result<Items<Header>, NoMemory>
+pub fn all_headers(alloc: Global, classes: &[ClassFile]) -> Result<ClassTable, NoMemory>
     ensures { IfOk result (λ made. made ≡ headers_of (map class_seen classes.now)) }
 {
     let mut made = headers_of_own(alloc)?;
     for class in classes {
         made.push(header_of_file(alloc, class)?)?;
     }
-    Ok(made)
+    Ok(ClassTable::of(made))
 }

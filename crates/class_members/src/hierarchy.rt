@@ -1,12 +1,12 @@
 //! All classes, and those above each.
 
-use class_headers::Header;
+use class_headers::ClassTable;
 use sqlite_items::Items;
 
 /// All classes, each by its number, and for each the numbers of those above it.
 #[derive(Drop)]
 pub struct Hierarchy {
-    pub headers: Items<Header>,
+    pub headers: ClassTable,
     /// The class directly above.
     pub parents: Items<Option<usize>>,
     /// The classes and interfaces directly above.

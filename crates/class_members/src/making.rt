@@ -4,19 +4,18 @@ ghost use Rattle.class_members.specs.Above.{AreChains, IsHierarchy, chain_of, cl
 ghost use Rattle.std.specs.Prelude.{◌≡◌, ◌++◌, IfOk, OnOk, map};
 
 use crate::hierarchy::Hierarchy;
-use class_headers::Header;
-use class_headers::places::class_number;
+use class_headers::{ClassTable, Header};
 use class_supers::all_supers;
 use kt_base::NoMemory;
 use sqlite_items::{Items, at};
 use std::alloc::Global;
 
-fn number_above(headers: &[Header], header: &Header) -> Option<usize>
+fn number_above(headers: &ClassTable, header: &Header) -> Option<usize>
     ensures { result ≡ parent_of headers.now header.now }
 {
     match &header.above {
         None => None,
-        Some(name) => class_number(headers, name.as_slice()),
+        Some(name) => headers.number(name.as_slice()),
     }
 }
 
@@ -32,7 +31,7 @@ fn push_found(numbers: &mut Items<usize>, number: Option<usize>) -> Result<(), N
 
 fn numbers_above(
     alloc: Global,
-    headers: &[Header],
+    headers: &ClassTable,
     header: &Header,
 ) -> Result<Items<usize>, NoMemory>
     ensures { IfOk result (λ numbers. numbers ≡ links_of headers.now header.now) }
@@ -40,26 +39,26 @@ fn numbers_above(
     let mut numbers = Items::new(alloc);
     push_found(&mut numbers, number_above(headers, header))?;
     for name in header.interfaces.as_slice() {
-        push_found(&mut numbers, class_number(headers, name.as_slice()))?;
+        push_found(&mut numbers, headers.number(name.as_slice()))?;
     }
     Ok(numbers)
 }
 
-fn all_parents(alloc: Global, headers: &[Header]) -> Result<Items<Option<usize>>, NoMemory>
+fn all_parents(alloc: Global, headers: &ClassTable) -> Result<Items<Option<usize>>, NoMemory>
     ensures { IfOk result (λ parents. parents ≡ map (parent_of headers.now) headers.now) }
 {
     let mut parents = Items::new(alloc);
-    for header in headers {
+    for header in headers.as_slice() {
         parents.push(number_above(headers, header))?;
     }
     Ok(parents)
 }
 
-fn all_links(alloc: Global, headers: &[Header]) -> Result<Items<Items<usize>>, NoMemory>
+fn all_links(alloc: Global, headers: &ClassTable) -> Result<Items<Items<usize>>, NoMemory>
     ensures { IfOk result (λ links. links ≡ map (links_of headers.now) headers.now) }
 {
     let mut links = Items::new(alloc);
-    for header in headers {
+    for header in headers.as_slice() {
         links.push(numbers_above(alloc, headers, header)?)?;
     }
     Ok(links)
@@ -102,11 +101,11 @@ fn all_chains(alloc: Global, parents: &[Option<usize>]) -> Result<Items<Items<us
 }
 
 /// The hierarchy of these classes.
-pub fn hierarchy_of(alloc: Global, headers: Items<Header>) -> Result<Hierarchy, NoMemory>
+pub fn hierarchy_of(alloc: Global, headers: ClassTable) -> Result<Hierarchy, NoMemory>
     ensures { IfOk result (λ h. IsHierarchy headers h) }
 {
-    let parents = all_parents(alloc, headers.as_slice())?;
-    let links = all_links(alloc, headers.as_slice())?;
+    let parents = all_parents(alloc, &headers)?;
+    let links = all_links(alloc, &headers)?;
     let chains = all_chains(alloc, parents.as_slice())?;
     let supers = all_supers(alloc, links.as_slice())?;
     Ok(Hierarchy {
