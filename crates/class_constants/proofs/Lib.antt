@@ -1,0 +1,3 @@
+mod Walks
+mod Counting
+pub mod Growing
