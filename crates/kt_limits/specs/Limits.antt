@@ -56,8 +56,8 @@ pub record IsFineLambda (f : FunForm) : Type 0 where
   pub captures : captures_of f ≤ most_captures
   pub identifiers : AreShort (local_names (locals_of f))
 
--- What a header or a direct statement adds to a unit: its place; its nodes; the weight of the body up to and with it; the
--- parameters of the function or the constructor; the identifiers that begin with it; its literal texts; the lambda
+-- What a header or a direct statement adds to a unit: its place; its nodes; the weight of the body up to and with it;
+-- the parameters of the function or the constructor; the identifiers that begin with it; its literal texts; the lambda
 -- literals in it. A header has no body, a statement no parameters.
 pub record Part : Type 0 where
   pub at : Pos

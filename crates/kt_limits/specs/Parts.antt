@@ -128,7 +128,8 @@ cut n (fun at suspends captures parameters locals t ss) =
 -- the names of the locals that a statement declares
 abbrev pub locals_with : ℕ → FunForm → List (List ℕ)
 locals_with i (fun at suspends captures parameters locals t ss) =
-    local_names (slice_range locals (locals_behind parameters (front i ss)) (locals_behind parameters (front (suc i) ss)))
+    local_names
+    (slice_range locals (locals_behind parameters (front i ss)) (locals_behind parameters (front (suc i) ss)))
 
 -- the body of a direct statement
 abbrev pub flat : {A : Type 0} → Option (Option A) → Option A

@@ -21,8 +21,8 @@ pub record IsFirstBeyond (ps : List (Owner × Part)) (p : Pos) : Type 0 where
 abbrev pub IsWithin : UnitForm → Type 0
 IsWithin u = AreWithinLimits (parts u)
 
--- A unit is refused at the first header such that the headers up to and with it pass a limit; where none does, at the first
--- direct statement such that the unit cut behind it passes one.
+-- A unit is refused at the first header such that the headers up to and with it pass a limit; where none does, at the
+-- first direct statement such that the unit cut behind it passes one.
 abbrev pub IsRefusedAt : UnitForm → Pos → Type 0
 IsRefusedAt u p = IsFirstBeyond (parts u) p
 

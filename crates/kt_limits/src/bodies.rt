@@ -123,7 +123,8 @@ fn statement_part(
     statement: &TypedStatement,
     count: u64,
 ) -> Result<(SoFar, u64), Pos>
-    ensures { (s : State) → before ≡ kept s → result ≡ stepped (fun_form body.now) s (statement_form statement.now) count }
+    ensures { (s : State) → before ≡ kept s →
+        result ≡ stepped (fun_form body.now) s (statement_form statement.now) count }
 {
     let sizes = statement_sizes(statement);
     let notes = statement_notes(statement);
@@ -232,7 +233,8 @@ fn next_statement<'a>(
 ) -> Result<Constructing<'a>, Pos>
     ensures { let f = maybe_fun constructor.now in let xs = statements_of (map statement_form before.entry.rest.now) in
         (s : State) → before.entry.so_far ≡ kept s →
-        MatchResult result (λ r. (walk before.entry.count (next_parts f s xs) ≡ Ok r.count) × (r.so_far ≡ kept (next_state f s xs))
+        MatchResult result (λ r. (walk before.entry.count (next_parts f s xs) ≡ Ok r.count)
+        × (r.so_far ≡ kept (next_state f s xs))
         × (statements_of (map statement_form r.rest.now) ≡ next_rest f xs))
         (λ p. walk before.entry.count (next_parts f s xs) ≡ Err p) }
 {
@@ -265,7 +267,8 @@ fn one_member<'a>(
         MatchResult result (λ r. (z : State) × (r.so_far ≡ kept z) × ((ms : List MemberNumber) →
         walk before.entry.count (members_behind b.functions b.constructor s xs (member ∷ ms))
         ≡ walk r.count (members_behind b.functions b.constructor z (statements_of (map statement_form r.rest.now)) ms)))
-        (λ p. (ms : List MemberNumber) → walk before.entry.count (members_behind b.functions b.constructor s xs (member ∷ ms)) ≡ Err p) }
+        (λ p. (ms : List MemberNumber) →
+        walk before.entry.count (members_behind b.functions b.constructor s xs (member ∷ ms)) ≡ Err p) }
 {
     match member {
         MemberNumber::Function(number) => {
@@ -289,7 +292,8 @@ fn member_statements(
     start: Constructing,
 ) -> Result<u64, Pos>
     ensures { let b = class_bodies bodies.now in (s : State) → start.entry.so_far ≡ kept s →
-        result ≡ walk start.entry.count (members_behind b.functions b.constructor s (statements_of (map statement_form start.entry.rest.now)) members.now) }
+        result ≡ walk start.entry.count (members_behind b.functions b.constructor s
+        (statements_of (map statement_form start.entry.rest.now)) members.now) }
 {
     let mut so_far = start.so_far;
     let mut rest = start.rest;

@@ -20,9 +20,9 @@ fn walked(unit: &TypedUnit) -> Result<u64, Pos>
 
 /// Whether a unit is within the limits of the language. It takes no memory.
 ///
-/// It is refused for its size exactly where it passes a limit: at the first header in text order, members included, such
-/// that the headers up to and with it do; where none does, at the first direct statement in text order such that the unit
-/// that is cut behind it does.
+/// It is refused for its size exactly where it passes a limit: at the first header in text order, members included,
+/// such that the headers up to and with it do; where none does, at the first direct statement in text order such that
+/// the unit that is cut behind it does.
 #[tactic(auto, using(crate::proofs::Answered::within, crate::proofs::Answered::refused))]
 pub fn check_size(unit: &TypedUnit) -> Result<(), FrontErr>
     ensures { Judges result (unit_form unit.now) }

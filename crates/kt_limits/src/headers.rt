@@ -219,7 +219,7 @@ fn member_header(class: &DeclaredClass, member: MemberNumber, count: u64) -> Res
 }
 
 fn member_headers(class: &DeclaredClass, start: u64) -> Result<u64, Pos>
-    ensures { result ≡ walk start (flat_map (spec.member_headers (class_form class.now)) (class_form class.now).members) }
+    ensures { let c = class_form class.now in result ≡ walk start (flat_map (spec.member_headers c) c.members) }
 {
     let mut count = start;
     for member in class.members.as_slice() {

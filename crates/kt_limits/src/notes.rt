@@ -71,7 +71,8 @@ impl Notes {
     /// A lambda literal, with what stands in it.
     #[tactic(auto, unfolding(crate::specs::Noting::seen))]
     pub fn lambda(body: &TypedFun, inside: Notes) -> Notes
-        ensures { (all : List Noted) → inside ≡ seen all → result ≡ seen (a_lambda (fun_form body.now) ∷ but_locals all) }
+        ensures { (all : List Noted) → inside ≡ seen all →
+            result ≡ seen (a_lambda (fun_form body.now) ∷ but_locals all) }
     {
         let is_fine = is_fine_lambda(body);
         Notes {

@@ -158,8 +158,8 @@ fn class_parameters(alloc: Global, count: u32) -> Result<Items<ClassParameter>, 
     Ok(parameters)
 }
 
-/// The class on line 1, with so many parameters that declare properties, and on lines 2 and 3 a property of the body, with
-/// a name of so many letters, and a function.
+/// The class on line 1, with so many parameters that declare properties, and on lines 2 and 3 a property of the body,
+/// with a name of so many letters, and a function.
 fn class_header(alloc: Global, parameters: u32, length: usize) -> Result<DeclaredClass, NoMemory> {
     let mut properties = Items::new(alloc);
     properties.push(DeclaredProperty {
