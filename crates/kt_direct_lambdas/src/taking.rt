@@ -2,7 +2,10 @@
 
 ghost use Rattle.kt_direct_lambdas.specs.Taking.{is_taken_in};
 ghost use Rattle.kt_meaning.specs.Variables as variables;
-ghost use Rattle.kt_typed.specs.Bodies.{block_form, call_form, callee_form, catch_form, catches_of, condition_form, conditions_of, entries_of, entry_form, expression_form, expressions_of, fun_form, maybe_block, maybe_expression, part_form, parts_of, receiver_form, statement_form, statements_of, target_form};
+ghost use Rattle.kt_typed.specs.Bodies.{block_form, call_form, callee_form, catch_form, catches_of, condition_form};
+ghost use Rattle.kt_typed.specs.Bodies.{conditions_of, entries_of, entry_form, expression_form, expressions_of};
+ghost use Rattle.kt_typed.specs.Bodies.{fun_form, maybe_block, maybe_expression, part_form, parts_of, receiver_form};
+ghost use Rattle.kt_typed.specs.Bodies.{statement_form, statements_of, target_form};
 ghost use Rattle.kt_typed.specs.Operators.{capture_form};
 ghost use Rattle.kt_typed.specs.Order as order;
 ghost use Rattle.kt_typed.specs.Order.{Found};
@@ -57,7 +60,7 @@ fn is_source(n: u32, source: CaptureSource) -> bool
 
 /// Whether the local is captured so, as a `var`.
 fn is_captured(n: u32, capture: &Capture) -> bool
-    ensures { result ≡ (capture_form capture.now).is_variable && variables.is_taken n (capture_form capture.now).source }
+    ensures { let c = capture_form capture.now in result ≡ c.is_variable && variables.is_taken n c.source }
 {
     if capture.is_variable {
         is_source(n, capture.source)
@@ -163,7 +166,8 @@ fn in_expression(n: u32, e: &TypedExpression) -> bool
 /// In an expression, where there is one.
 #[cycle(taking)]
 fn in_maybe(n: u32, e: &Option<Boxed<TypedExpression>>) -> bool
-    ensures { result ≡ is_taken_in n (order.found_in_maybe false (maybe_expression (option_map expression_form e.now))) }
+    ensures { result ≡ is_taken_in n
+        (order.found_in_maybe false (maybe_expression (option_map expression_form e.now))) }
 {
     match e {
         Some(there) => in_expression(n, there.get()),
@@ -267,7 +271,8 @@ fn in_entry(n: u32, entry: &TypedEntry) -> bool
 /// In the conditions of an entry.
 #[cycle(taking)]
 fn in_conditions(n: u32, conditions: &[TypedCondition]) -> bool
-    ensures { result ≡ is_taken_in n (order.found_in_conditions false (conditions_of (map condition_form conditions.now))) }
+    ensures { result ≡ is_taken_in n
+        (order.found_in_conditions false (conditions_of (map condition_form conditions.now))) }
 {
     let mut any = nowhere(n);
     for condition in conditions {
@@ -325,7 +330,8 @@ fn in_block(n: u32, block: &TypedBlock) -> bool
 /// In a block, where there is one.
 #[cycle(taking)]
 fn in_maybe_block(n: u32, block: &Option<TypedBlock>) -> bool
-    ensures { result ≡ is_taken_in n (order.found_in_maybe_block false (maybe_block (option_map block_form block.now))) }
+    ensures { result ≡ is_taken_in n
+        (order.found_in_maybe_block false (maybe_block (option_map block_form block.now))) }
 {
     match block {
         Some(there) => in_block(n, there),
@@ -336,7 +342,8 @@ fn in_maybe_block(n: u32, block: &Option<TypedBlock>) -> bool
 /// In statements.
 #[cycle(taking)]
 fn in_statements(n: u32, statements: &[TypedStatement]) -> bool
-    ensures { result ≡ is_taken_in n (order.found_in_statements false (statements_of (map statement_form statements.now))) }
+    ensures { result ≡ is_taken_in n
+        (order.found_in_statements false (statements_of (map statement_form statements.now))) }
 {
     let mut any = nowhere(n);
     for statement in statements {

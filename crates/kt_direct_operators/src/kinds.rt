@@ -3,8 +3,9 @@
 ghost use Rattle.kt_direct_values.specs.Forms.{value_form};
 ghost use Rattle.kt_meaning.specs.Literals as literals;
 ghost use Rattle.kt_values.specs.Values as v;
-ghost use Rattle.std.specs.Prelude.{◌≡◌};
+ghost use Rattle.std.specs.Prelude.{◌≡◌, option_map};
 
+use kt_base::Text16;
 use kt_direct_values::DirectValue;
 use kt_typed::TypedLiteral;
 
@@ -92,6 +93,44 @@ pub fn as_character(x: &DirectValue) -> Option<u16>
         | DirectValue::Unit
         | DirectValue::Entry(_, _)
         | DirectValue::Cell(_)
+        | DirectValue::Closure(_, _)
+        | DirectValue::Reference(_, _) => None,
+    }
+}
+
+/// A text; none where it is of another kind.
+pub fn as_text(x: &DirectValue) -> Option<&Text16>
+    ensures { option_map (λ t. t.now) result ≡ v.as_text (value_form x.now) }
+{
+    match x {
+        DirectValue::Text(t) => Some(t),
+        DirectValue::Int(_)
+        | DirectValue::Long(_)
+        | DirectValue::Truth(_)
+        | DirectValue::Character(_)
+        | DirectValue::Null
+        | DirectValue::Unit
+        | DirectValue::Entry(_, _)
+        | DirectValue::Cell(_)
+        | DirectValue::Closure(_, _)
+        | DirectValue::Reference(_, _) => None,
+    }
+}
+
+/// The number of a cell; none where it is of another kind.
+pub fn as_cell(x: &DirectValue) -> Option<u32>
+    ensures { result ≡ v.as_cell (value_form x.now) }
+{
+    match x {
+        DirectValue::Cell(n) => Some(*n),
+        DirectValue::Int(_)
+        | DirectValue::Long(_)
+        | DirectValue::Truth(_)
+        | DirectValue::Character(_)
+        | DirectValue::Text(_)
+        | DirectValue::Null
+        | DirectValue::Unit
+        | DirectValue::Entry(_, _)
         | DirectValue::Closure(_, _)
         | DirectValue::Reference(_, _) => None,
     }

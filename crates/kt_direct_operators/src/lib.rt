@@ -7,5 +7,7 @@ pub mod numbers;
 pub mod operators;
 
 pub use equality::equal_basic;
-pub use kinds::{as_character, as_int, as_number, as_truth, is_null, literal_value};
+pub use kinds::{
+    as_cell, as_character, as_int, as_number, as_text, as_truth, is_null, literal_value,
+};
 pub use operators::{arithmetic, asserted, bitwise, compared, prefixed, shifted, stepped};

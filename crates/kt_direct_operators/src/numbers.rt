@@ -50,7 +50,8 @@ pub fn calculated_int(
     y: i32,
     store: &mut DirectStore,
 ) -> Result<i32, Abrupt>
-    ensures { Agrees v.int result (store_form store.new) (spec.calculated operator width.Int x y (store_form store.old)) }
+    ensures { Agrees v.int result (store_form store.new)
+        (spec.calculated operator width.Int x y (store_form store.old)) }
 {
     match operator {
         ArithmeticOperator::Plus => Ok(x.wrapping_add(y)),
@@ -69,7 +70,8 @@ pub fn calculated_long(
     y: i64,
     store: &mut DirectStore,
 ) -> Result<i64, Abrupt>
-    ensures { Agrees v.long result (store_form store.new) (spec.calculated operator width.Long x y (store_form store.old)) }
+    ensures { Agrees v.long result (store_form store.new)
+        (spec.calculated operator width.Long x y (store_form store.old)) }
 {
     match operator {
         ArithmeticOperator::Plus => Ok(x.wrapping_add(y)),

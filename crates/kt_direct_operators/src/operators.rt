@@ -52,7 +52,7 @@ fn negated(x: &DirectValue) -> Result<DirectValue, Abrupt>
     }
 }
 
-/// An operation on two numbers. An `Int` operation on a `Long`, which no typed unit has, isn't built.
+/// An operation on two numbers.
 pub fn arithmetic(
     alloc: Global,
     operator: ArithmeticOperator,
@@ -61,18 +61,13 @@ pub fn arithmetic(
     y: &DirectValue,
     store: &mut DirectStore,
 ) -> Result<DirectValue, Abrupt>
-    ensures { AgreesValue result (store_form store.new) (spec.both (v.as_number (value_form x.now)) (v.as_number (value_form y.now))
+    ensures { AgreesValue result (store_form store.new)
+        (spec.both (spec.operand w (value_form x.now)) (spec.operand w (value_form y.now))
         (spec.calculated operator w) (store_form store.old)) }
 {
     match w {
         Width::Int => int_arithmetic(alloc, operator, x, y, store),
-        Width::Long => match as_number(x) {
-            Some(m) => match as_number(y) {
-                Some(n) => Ok(DirectValue::Long(calculated_long(alloc, operator, m, n, store)?)),
-                None => Err(Abrupt::Stopped(Stop::Unfit)),
-            },
-            None => Err(Abrupt::Stopped(Stop::Unfit)),
-        },
+        Width::Long => long_arithmetic(alloc, operator, x, y, store),
     }
 }
 
@@ -84,17 +79,37 @@ fn int_arithmetic(
     y: &DirectValue,
     store: &mut DirectStore,
 ) -> Result<DirectValue, Abrupt>
-    ensures { AgreesValue result (store_form store.new) (spec.both (v.as_number (value_form x.now)) (v.as_number (value_form y.now))
+    ensures { AgreesValue result (store_form store.new)
+        (spec.both (v.as_int (value_form x.now)) (v.as_int (value_form y.now))
         (spec.calculated operator width.Int) (store_form store.old)) }
 {
-    match x {
-        DirectValue::Int(m) => match y {
-            DirectValue::Int(n) => Ok(DirectValue::Int(calculated_int(
-                alloc, operator, *m, *n, store,
-            )?)),
-            _ => Err(Abrupt::NotBuilt),
+    match as_int(x) {
+        Some(m) => match as_int(y) {
+            Some(n) => Ok(DirectValue::Int(calculated_int(alloc, operator, m, n, store)?)),
+            None => Err(Abrupt::Stopped(Stop::Unfit)),
         },
-        _ => Err(Abrupt::NotBuilt),
+        None => Err(Abrupt::Stopped(Stop::Unfit)),
+    }
+}
+
+/// An operation on two `Long`s, or on `Int`s that count as such.
+fn long_arithmetic(
+    alloc: Global,
+    operator: ArithmeticOperator,
+    x: &DirectValue,
+    y: &DirectValue,
+    store: &mut DirectStore,
+) -> Result<DirectValue, Abrupt>
+    ensures { AgreesValue result (store_form store.new)
+        (spec.both (v.as_number (value_form x.now)) (v.as_number (value_form y.now))
+        (spec.calculated operator width.Long) (store_form store.old)) }
+{
+    match as_number(x) {
+        Some(m) => match as_number(y) {
+            Some(n) => Ok(DirectValue::Long(calculated_long(alloc, operator, m, n, store)?)),
+            None => Err(Abrupt::Stopped(Stop::Unfit)),
+        },
+        None => Err(Abrupt::Stopped(Stop::Unfit)),
     }
 }
 
@@ -106,7 +121,8 @@ pub fn stepped(
     x: &DirectValue,
     store: &mut DirectStore,
 ) -> Result<DirectValue, Abrupt>
-    ensures { AgreesValue result (store_form store.new) (spec.stepped operator w (value_form x.now) (store_form store.old)) }
+    ensures { AgreesValue result (store_form store.new)
+        (spec.stepped operator w (value_form x.now) (store_form store.old)) }
 {
     let by = match operator {
         StepOperator::Increment => ArithmeticOperator::Plus,
@@ -115,23 +131,24 @@ pub fn stepped(
     arithmetic(alloc, by, w, x, &DirectValue::Int(1), store)
 }
 
-/// `and`, `or` and `xor`. An `Int` operation on a `Long` isn't built.
+/// `and`, `or` and `xor`.
 pub fn bitwise(
     operator: BitwiseOperator,
     w: Width,
     x: &DirectValue,
     y: &DirectValue,
 ) -> Result<DirectValue, Abrupt>
-    ensures { (s : Store) → AgreesValue result s (spec.both (v.as_number (value_form x.now)) (v.as_number (value_form y.now))
+    ensures { (s : Store) → AgreesValue result s
+        (spec.both (spec.operand w (value_form x.now)) (spec.operand w (value_form y.now))
         (λ m n. give (spec.joined_bits operator w m n)) s) }
 {
     match w {
-        Width::Int => match x {
-            DirectValue::Int(m) => match y {
-                DirectValue::Int(n) => Ok(DirectValue::Int(joined_int(operator, *m, *n))),
-                _ => Err(Abrupt::NotBuilt),
+        Width::Int => match as_int(x) {
+            Some(m) => match as_int(y) {
+                Some(n) => Ok(DirectValue::Int(joined_int(operator, m, n))),
+                None => Err(Abrupt::Stopped(Stop::Unfit)),
             },
-            _ => Err(Abrupt::NotBuilt),
+            None => Err(Abrupt::Stopped(Stop::Unfit)),
         },
         Width::Long => match as_number(x) {
             Some(m) => match as_number(y) {
@@ -143,23 +160,24 @@ pub fn bitwise(
     }
 }
 
-/// `shl`, `shr` and `ushr`. An `Int` operation on a `Long` isn't built.
+/// `shl`, `shr` and `ushr`. The count is an `Int` in both widths.
 pub fn shifted(
     operator: ShiftOperator,
     w: Width,
     x: &DirectValue,
     y: &DirectValue,
 ) -> Result<DirectValue, Abrupt>
-    ensures { (s : Store) → AgreesValue result s (spec.both (v.as_number (value_form x.now)) (v.as_int (value_form y.now))
+    ensures { (s : Store) → AgreesValue result s
+        (spec.both (spec.operand w (value_form x.now)) (v.as_int (value_form y.now))
         (λ m n. give (spec.shifted operator w m n)) s) }
 {
     match w {
-        Width::Int => match x {
-            DirectValue::Int(m) => match as_int(y) {
-                Some(n) => Ok(DirectValue::Int(shifted_int(operator, *m, n))),
+        Width::Int => match as_int(x) {
+            Some(m) => match as_int(y) {
+                Some(n) => Ok(DirectValue::Int(shifted_int(operator, m, n))),
                 None => Err(Abrupt::Stopped(Stop::Unfit)),
             },
-            _ => Err(Abrupt::NotBuilt),
+            None => Err(Abrupt::Stopped(Stop::Unfit)),
         },
         Width::Long => match as_number(x) {
             Some(m) => match as_int(y) {
@@ -191,7 +209,8 @@ pub fn compared(
     x: &DirectValue,
     y: &DirectValue,
 ) -> Result<DirectValue, Abrupt>
-    ensures { (s : Store) → AgreesValue result s (spec.both (spec.rank kind (value_form x.now)) (spec.rank kind (value_form y.now))
+    ensures { (s : Store) → AgreesValue result s
+        (spec.both (spec.rank kind (value_form x.now)) (spec.rank kind (value_form y.now))
         (λ m n. give (v.truth (spec.is_ordered operator m n))) s) }
 {
     match rank(kind, x) {

@@ -10,7 +10,6 @@ use Rattle.kt_direct_values.specs.Agree.{Fails, Raises}
 pub passes : {A B : Type 0} (x : Abrupt) (s : Store) (g : Gives A) (go : A → Run B) → Fails x s g
     → Fails x s (then_do g go)
 passes ends.NoMemory s g go h = tt
-passes ends.NotBuilt s g go h = tt
 passes (ends.Thrown x) s g go h = ap (λ g. then_do g go) h
 passes (ends.Returned x) s g go h = ap (λ g. then_do g go) h
 passes ends.Broken s g go h = ap (λ g. then_do g go) h
@@ -21,7 +20,6 @@ pub raised : (A : Type 0) (fault : Fault) (x : Abrupt) (s after : Store) → Rai
     → Fails {A = A} x after (raise fault s)
 raised A fault ends.NoMemory s after h = tt
 raised A fault (ends.Thrown x) s after h = ap (λ g. then_do g (λ x. throws x)) h
-raised A fault ends.NotBuilt s after h = absurd h
 raised A fault (ends.Returned x) s after h = absurd h
 raised A fault ends.Broken s after h = absurd h
 raised A fault ends.Continued s after h = absurd h

@@ -9,10 +9,9 @@ use Rattle.kt_values.specs.Throwables.{Fault, fault_class, fault_message}
 use Rattle.kt_values.specs.Heap.{make, text_or_null}
 use Rattle.kt_values.specs.Runs.{Store, Gives, gave, thrown, returned, broken, continued, stopped}
 
--- an end without a value, and the store behind it. Want of memory, and a form that isn't built, say nothing
+-- an end without a value, and the store behind it. Want of memory says nothing
 abbrev pub Fails : {A : Type 0} → Abrupt → Store → Gives A → Type 0
 Fails ends.NoMemory s g = Unit {0}
-Fails ends.NotBuilt s g = Unit {0}
 Fails (ends.Thrown x) s g = g ≡ thrown (value_form x) s
 Fails (ends.Returned x) s g = g ≡ returned (value_form x) s
 Fails ends.Broken s g = g ≡ broken s

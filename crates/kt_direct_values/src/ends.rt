@@ -27,8 +27,6 @@ pub enum Stop {
 pub enum Abrupt {
     /// Memory ran out, or calls went deeper than the stack may go.
     NoMemory,
-    /// A form that the interpreter doesn't have yet.
-    NotBuilt,
     Thrown(DirectValue),
     Returned(DirectValue),
     /// By `break`.

@@ -174,7 +174,8 @@ impl<'a> DirectStore<'a> {
 
     /// The object of a reference.
     pub fn object_of(&self, x: &DirectValue) -> Option<&DirectObject>
-        ensures { option_map (λ o. object_form o.now) result ≡ heap.object_of (store_form self.now).heap (value_form x.now) }
+        ensures { option_map (λ o. object_form o.now) result
+            ≡ heap.object_of (store_form self.now).heap (value_form x.now) }
     {
         match place_of(x) {
             Some(place) => self.heap.get(place),

@@ -35,7 +35,7 @@ use Rattle.kt_typed.specs.Bodies.{FunForm, fun}
 use Rattle.kt_typed.specs.Headers.{PropertyForm}
 use Rattle.kt_typed.specs.Units.{UnitForm}
 use Rattle.kt_values.specs.Values as v
-use Rattle.kt_values.specs.Values.{Value, Shape, Object, instance, numbers, elements, variable, as_int, as_number, as_truth, as_text, as_cell, listed, is_null}
+use Rattle.kt_values.specs.Values.{Value, Shape, Object, instance, numbers, elements, variable, as_int, as_truth, as_text, as_cell, listed, is_null}
 use Rattle.kt_values.specs.Numbers.{count_as_int}
 use Rattle.kt_values.specs.Throwables.{Fault, failed_cast, null_asserted, array_index, text_index, negative_size, already_resumed, zero_divisor, text_too_long}
 use Rattle.kt_values.specs.Texts.{text_of_basic, is_too_long}
@@ -51,8 +51,8 @@ use Rattle.kt_meaning.specs.Equality.{equal_basic, call_equals, equals_of, equal
 use Rattle.kt_meaning.specs.Printing.{call_to_string, to_string_of, text_of, joined, concatenated, put_properties, data_text}
 use Rattle.kt_values.specs.Numbers.{quotient, remainder}
 use Rattle.std.specs.Int.{int_wrapping_add, int_wrapping_sub, int_wrapping_mul}
-use Rattle.kt_meaning.specs.Operators.{bits_of, number, joined_bits, shifted, is_ordered, rank, negated, divided, calculated, prefixed, stepped, both, applied, if_true, if_false, if_null, operation}
-use Rattle.kt_meaning.specs.Access.{object_at, size_of, read_property, write_property, at_index, index_in, or_raise, element_at, element, put_at, put_element}
+use Rattle.kt_meaning.specs.Operators.{bits_of, number, operand, joined_bits, shifted, is_ordered, rank, negated, divided, calculated, prefixed, stepped, both, applied, if_true, if_false, if_null, operation}
+use Rattle.kt_meaning.specs.Access.{object_at, size_of, read_property, write_property, at_index, index_in, slot_at, or_raise, element_at, element, put_at, put_element}
 use Rattle.kt_meaning.specs.Assignments.{Place, in_local, in_captured, in_property, in_element, read_place, write_place}
 use Rattle.kt_meaning.specs.Conditionals.{branch, unless_null}
 use Rattle.kt_meaning.specs.Loops.{turned, after_turn, while_true, while_loop, do_loop, for_loop, over_range, last_of}
@@ -199,12 +199,15 @@ or_raise_keeps : {A : Type 0} {n m : ℕ} (o : Option A) (fault : Fault) → Kee
 or_raise_keeps (Some a) fault = gives a
 or_raise_keeps None fault = raise_keeps fault
 
+slot_at_keeps : {n m : ℕ} (x : Value) (i : ℤ) → Keeps n m (slot_at x i)
+slot_at_keeps x i =
+    binds (binds (object_at_keeps x) (λ o. gives (at_index o.slots i)))
+    (λ found. or_raise_keeps found (array_index i))
+
 element_at_keeps : {n m : ℕ} (x : Value) (i : ℤ) → Keeps n m (element_at x i)
 element_at_keeps (v.text t) i = or_raise_keeps (option_map v.character (at_index t i)) (text_index i)
-element_at_keeps (v.reference numbers place) i =
-    binds (object_at_keeps (v.reference numbers place)) (λ o. or_raise_keeps (at_index o.slots i) (array_index i))
-element_at_keeps (v.reference elements place) i =
-    binds (object_at_keeps (v.reference elements place)) (λ o. or_raise_keeps (at_index o.slots i) (array_index i))
+element_at_keeps (v.reference numbers place) i = slot_at_keeps (v.reference numbers place) i
+element_at_keeps (v.reference elements place) i = slot_at_keeps (v.reference elements place) i
 element_at_keeps _ i = unfit_keeps
 
 pub element_keeps : {n m : ℕ} (x y : Value) → Keeps n m (element x y)
@@ -212,8 +215,8 @@ element_keeps x y = binds (or_unfit_keeps (as_int y)) (element_at_keeps x)
 
 put_at_keeps : {n m : ℕ} (x : Value) (i : ℤ) (new : Value) → Keeps n m (put_at x i new)
 put_at_keeps x i new =
-    binds (object_at_keeps x) (λ o. binds (or_raise_keeps (index_in o.slots i) (array_index i))
-    (λ slot. write_slot_keeps x slot new))
+    binds (binds (object_at_keeps x) (λ o. gives (index_in o.slots i)))
+    (λ there. binds (or_raise_keeps there (array_index i)) (λ slot. write_slot_keeps x slot new))
 
 put_element_keeps : {n m : ℕ} (x y new : Value) → Keeps n m (put_element x y new)
 put_element_keeps (v.reference numbers place) y new =
@@ -446,9 +449,9 @@ module _ (n m : ℕ) (here : Activation) (calls_keep : (c : Called) (xs : List V
 
   pub stepped_keeps : (o : StepOperator) (w : Width) (x : Value) → Keeps n m (stepped o w x)
   stepped_keeps step.Increment w x =
-      binds (or_unfit_keeps (as_number x)) (λ i. calculated_keeps arithmetic.Plus w i (pos 1))
+      binds (or_unfit_keeps (operand w x)) (λ i. calculated_keeps arithmetic.Plus w i (pos 1))
   stepped_keeps step.Decrement w x =
-      binds (or_unfit_keeps (as_number x)) (λ i. calculated_keeps arithmetic.Minus w i (pos 1))
+      binds (or_unfit_keeps (operand w x)) (λ i. calculated_keeps arithmetic.Minus w i (pos 1))
 
   both_keeps : {A B : Type 0} (a : Option A) (b : Option B) {go : A → B → Run Value}
       → ((x : A) (y : B) → Keeps n m (go x y)) → Keeps n m (both a b go)
@@ -459,11 +462,11 @@ module _ (n m : ℕ) (here : Activation) (calls_keep : (c : Called) (xs : List V
   applied_keeps operator.NotEqual has_null x y = binds (compared_keeps has_null x y) (λ b. gives (v.truth (not b)))
   applied_keeps operator.Concatenate has_null x y = concatenated_keeps x y
   applied_keeps (operator.Arithmetic o w) has_null x y =
-      both_keeps (as_number x) (as_number y) (λ i j. calculated_keeps o w i j)
+      both_keeps (operand w x) (operand w y) (λ i j. calculated_keeps o w i j)
   applied_keeps (operator.Bitwise o w) has_null x y =
-      both_keeps (as_number x) (as_number y) (λ i j. gives (joined_bits o w i j))
+      both_keeps (operand w x) (operand w y) (λ i j. gives (joined_bits o w i j))
   applied_keeps (operator.Shift o w) has_null x y =
-      both_keeps (as_number x) (as_int y) (λ i j. gives (shifted o w i j))
+      both_keeps (operand w x) (as_int y) (λ i j. gives (shifted o w i j))
   applied_keeps (operator.Compare o kind) has_null x y =
       both_keeps (rank kind x) (rank kind y) (λ i j. gives (v.truth (is_ordered o i j)))
   applied_keeps _ has_null x y = unfit_keeps

@@ -21,11 +21,13 @@ slot_in u c place _ = None
 abbrev pub object_at : Value → Run Object
 object_at x s = or_unfit (object_of s.heap x) s
 
+-- how many slots it has
+abbrev pub count_slots : Value → Run Value
+count_slots x = object_at x >>= λ o. give (v.int (count_as_int (length o.slots)))
+
 abbrev pub size_of : Value → Run Value
-size_of (v.reference numbers place) =
-    object_at (v.reference numbers place) >>= λ o. give (v.int (count_as_int (length o.slots)))
-size_of (v.reference elements place) =
-    object_at (v.reference elements place) >>= λ o. give (v.int (count_as_int (length o.slots)))
+size_of (v.reference numbers place) = count_slots (v.reference numbers place)
+size_of (v.reference elements place) = count_slots (v.reference elements place)
 size_of _ = or_unfit None
 
 abbrev pub entry_name_of : UnitForm → Value → Option Value
@@ -70,23 +72,35 @@ abbrev pub or_raise : {A : Type 0} → Option A → Fault → Run A
 or_raise (Some a) fault = give a
 or_raise None fault = raise fault
 
+-- what stands in the slot of an index, where there is one
+abbrev pub slot_in_range : Value → ℤ → Run (Option Value)
+slot_in_range x i = object_at x >>= λ o. give (at_index o.slots i)
+
+abbrev pub slot_at : Value → ℤ → Run Value
+slot_at x i = slot_in_range x i >>= λ found. or_raise found (array_index i)
+
+abbrev pub unit_at : List ℕ → ℤ → Run Value
+unit_at t i = or_raise (option_map v.character (at_index t i)) (text_index i)
+
 -- an element of an array, or a unit of a string
 abbrev pub element_at : Value → ℤ → Run Value
-element_at (v.text t) i = or_raise (option_map v.character (at_index t i)) (text_index i)
-element_at (v.reference numbers place) i =
-    object_at (v.reference numbers place) >>= λ o. or_raise (at_index o.slots i) (array_index i)
-element_at (v.reference elements place) i =
-    object_at (v.reference elements place) >>= λ o. or_raise (at_index o.slots i) (array_index i)
+element_at (v.text t) i = unit_at t i
+element_at (v.reference numbers place) i = slot_at (v.reference numbers place) i
+element_at (v.reference elements place) i = slot_at (v.reference elements place) i
 element_at _ i = or_unfit None
 
 -- `x[y]`
 abbrev pub element : Value → Value → Run Value
 element x y = or_unfit (as_int y) >>= element_at x
 
+-- the slot of an index, where there is one
+abbrev pub index_in_range : Value → ℤ → Run (Option ℕ)
+index_in_range x i = object_at x >>= λ o. give (index_in o.slots i)
+
 abbrev pub put_at : Value → ℤ → Value → Run (Unit {0})
 put_at x i new = do
-  o ← object_at x
-  slot ← or_raise (index_in o.slots i) (array_index i)
+  there ← index_in_range x i
+  slot ← or_raise there (array_index i)
   write_slot x slot new
 
 -- the element gets a value

@@ -1,5 +1,5 @@
 -- What the headers of a unit tell running code of its classes.
-use Rattle.std.specs.Prelude.{ℕ, zero, suc, Bool, true, false, ◌&&◌, ◌||◌, ◌==◌, List, [], ◌∷◌, length, map, drop, reverse, Option, Some, None, option_map, option_and_then, unwrap_or, slice_get, is_some, pos, find, not}
+use Rattle.std.specs.Prelude.{ℕ, zero, suc, Bool, true, false, ◌&&◌, ◌||◌, ◌==◌, List, [], ◌∷◌, length, map, take, drop, reverse, Option, Some, None, option_map, option_and_then, unwrap_or, slice_get, is_some, pos, find, not}
 use Rattle.std.specs.List.{flat_map, list_any, position_from, sum_by}
 use Rattle.std.specs.Cmp.Lexicographic.{pointwise}
 use Rattle.kt_types_tree.specs.declared.types.TypeConstructor.TheVariants as constructor
@@ -108,14 +108,10 @@ is_data_kind _ = false
 abbrev pub is_data : UnitForm → ℕ → Bool
 is_data u c = unwrap_or (option_map (λ k. is_data_kind k.kind) (class_at u c)) false
 
--- what a data class compares and prints: the properties that its parameters declare
+-- what a data class compares and prints: the properties that its parameters declare, which are its first ones
 abbrev pub data_properties : UnitForm → ℕ → List PropertyForm
-data_properties u c = unwrap_or (option_map (λ k. first_of k.parameters k.properties) (class_at u c)) []
-  where
-    first_of : {A B : Type 0} → List A → List B → List B
-    first_of [] bs = []
-    first_of (a ∷ as') [] = []
-    first_of (a ∷ as') (b ∷ bs) = b ∷ first_of as' bs
+data_properties u c =
+    unwrap_or (option_map (λ k. take (length k.parameters) k.properties) (class_at u c)) []
 
 -- Names.
 

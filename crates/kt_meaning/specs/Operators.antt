@@ -41,6 +41,11 @@ abbrev pub number : Width → ℤ → Value
 number width.Int n = v.int n
 number width.Long n = v.long n
 
+-- what an operation of this width takes: an `Int` counts as the `Long` of its size, and nothing else is converted
+abbrev pub operand : Width → Value → Option ℤ
+operand width.Int x = as_int x
+operand width.Long x = as_number x
+
 -- `Int` and `Long`.
 
 -- what there is, or a zero divisor
@@ -88,8 +93,8 @@ prefixed prefix.Not x = or_unfit (option_map (λ b. v.truth (not b)) (as_truth x
 
 -- `++` and `--`
 abbrev pub stepped : StepOperator → Width → Value → Run Value
-stepped step.Increment w x = or_unfit (as_number x) >>= λ n. calculated arithmetic.Plus w n (pos 1)
-stepped step.Decrement w x = or_unfit (as_number x) >>= λ n. calculated arithmetic.Minus w n (pos 1)
+stepped step.Increment w x = or_unfit (operand w x) >>= λ n. calculated arithmetic.Plus w n (pos 1)
+stepped step.Decrement w x = or_unfit (operand w x) >>= λ n. calculated arithmetic.Minus w n (pos 1)
 
 -- Operations on two values.
 
@@ -101,9 +106,9 @@ abbrev pub applied : Activation → TypedOperator → Bool → Value → Value �
 applied here operator.Equal is_null x y = compared here is_null x y >>= λ b. give (v.truth b)
 applied here operator.NotEqual is_null x y = compared here is_null x y >>= λ b. give (v.truth (not b))
 applied here operator.Concatenate is_null x y = concatenated here x y
-applied here (operator.Arithmetic o w) is_null x y = both (as_number x) (as_number y) (calculated o w)
-applied here (operator.Bitwise o w) is_null x y = both (as_number x) (as_number y) (λ m n. give (joined_bits o w m n))
-applied here (operator.Shift o w) is_null x y = both (as_number x) (as_int y) (λ m n. give (shifted o w m n))
+applied here (operator.Arithmetic o w) is_null x y = both (operand w x) (operand w y) (calculated o w)
+applied here (operator.Bitwise o w) is_null x y = both (operand w x) (operand w y) (λ m n. give (joined_bits o w m n))
+applied here (operator.Shift o w) is_null x y = both (operand w x) (as_int y) (λ m n. give (shifted o w m n))
 applied here (operator.Compare o kind) is_null x y =
     both (rank kind x) (rank kind y) (λ m n. give (v.truth (is_ordered o m n)))
 applied here _ is_null x y = or_unfit None
