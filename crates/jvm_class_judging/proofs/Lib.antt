@@ -1,0 +1,4 @@
+pub mod Coded
+pub mod Framed
+pub mod Parted
+pub mod Whole
