@@ -68,7 +68,8 @@ pub fn are_types_meant(
 ) -> Result<bool, NoMemory>
     requires known { Knows (map declaration_tree file.now) facts.now }
     requires few { length scope.now < 2 ^ 32 }
-    ensures { IfOk result (λ yes. IsTrue yes ↔ AreMeant (map declaration_tree file.now) scope.now (map type_tree written.now)) }
+    ensures { IfOk result (λ yes. IsTrue yes ↔ AreMeant (map declaration_tree file.now) scope.now
+        (map type_tree written.now)) }
 {
     for each in written {
         let meant = is_meant(alloc, file, facts, scope, each)?;
