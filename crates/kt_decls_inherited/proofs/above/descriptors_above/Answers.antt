@@ -1,0 +1,7 @@
+use Rattle.std.specs.Prelude.{map}
+use Rattle.kt_tree.specs.Declarations.{declaration_tree}
+use Rattle.kt_decls_inherited.proofs.Told.{descriptors_told}
+use Rattle.kt_decls_inherited.proofs.above.descriptors_above.Goals as goal
+
+pub returns : goal.returns
+returns c = descriptors_told (map declaration_tree c.args.file.now) c.args.facts.now c.requires.known c.args.places.now c.requires.places c.len.result c.args.row c.len.ensures c.args.name.now c.args.count c.descriptors_from.result c.descriptors_from.ensures
