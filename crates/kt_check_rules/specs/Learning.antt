@@ -3,13 +3,13 @@ use Rattle.std.specs.Prelude.{ℕ, Bool, true, false, not, List, slice_get, Opti
 use Rattle.kt_tree.specs.declared.bodies.PrefixOperator.TheVariants as before
 use Rattle.kt_types_tree.specs.Types.{TypeForm}
 use Rattle.kt_types_tree.specs.Hierarchy.{HierarchyForm}
-use Rattle.kt_typed.specs.declared.operators.TypedLiteral.TheVariants as is
 use Rattle.kt_typed.specs.declared.operators.TypedOperator.TheVariants as op
 use Rattle.kt_typed.specs.Operators.{LocalForm}
-use Rattle.kt_typed.specs.Bodies.{ExpressionForm, literal, local, prefix, binary, type_test}
+use Rattle.kt_typed.specs.Bodies.{ExpressionForm, local, prefix, binary, type_test}
 use Rattle.kt_flow.specs.Facts.{FactsForm, learn, meet}
 use Rattle.kt_check_rules.specs.Kinds.{present_type}
 use Rattle.kt_check_rules.specs.Names.{is_stable}
+use Rattle.kt_check_rules.specs.Completion.{is_null_literal}
 
 -- of a local that is no `var`
 abbrev pub learn_stable : ℕ → Option LocalForm → TypeForm → FactsForm → FactsForm
@@ -26,11 +26,11 @@ abbrev pub learn_present : HierarchyForm → List LocalForm → ExpressionForm �
 learn_present h locals (local u n) f = learn_stable n (slice_get locals n) (present_type h u) f
 learn_present h locals _ f = f
 
--- two expressions differ
+-- two expressions differ: where one is `null`, the other isn't
 abbrev pub learn_unequal : HierarchyForm → List LocalForm → ExpressionForm → ExpressionForm → FactsForm → FactsForm
-learn_unequal h locals e (literal t is.Null) f = learn_present h locals e f
-learn_unequal h locals (literal t is.Null) e f = learn_present h locals e f
-learn_unequal h locals _ _ f = f
+learn_unequal h locals a b f =
+    if is_null_literal b then learn_present h locals a f
+    else (if is_null_literal a then learn_present h locals b f else f)
 
 -- the first is true where the test holds
 abbrev pub learnt : HierarchyForm → List LocalForm → Bool → ExpressionForm → FactsForm → FactsForm

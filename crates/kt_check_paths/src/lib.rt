@@ -1,0 +1,5 @@
+//! Facts where paths join.
+#![tactic(auto)]
+
+pub mod joining;
+pub mod rows;
