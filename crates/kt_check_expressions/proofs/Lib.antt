@@ -1,0 +1,3 @@
+pub mod SameKind
+pub mod FirstPair
+pub mod Chosen
