@@ -1,0 +1,4 @@
+mod Forms
+mod Groundless
+mod Seen
+mod Well
