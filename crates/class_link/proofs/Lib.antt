@@ -1,0 +1,4 @@
+mod Numbered
+mod OneHierarchy
+mod OneAnswer
+mod Closing
