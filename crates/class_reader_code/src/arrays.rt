@@ -1,6 +1,6 @@
 //! Code of so many bytes (JVMS SE 8 §4.7.3).
 
-ghost use Rattle.class_reader_code.specs.Needs.{Refused, mentioned_rows};
+ghost use Rattle.class_reader_code.specs.Refusals.{Refused, mentioned_rows};
 ghost use Rattle.jvm_class_formats.specs.Reads.{Reads};
 ghost use Rattle.jvm_class_grammar.specs.Instructions as grammar;
 ghost use Rattle.jvm_code.specs.Decoding.{rows};

@@ -3,6 +3,5 @@
 
 pub mod arrays;
 pub mod mentions;
-pub mod needs;
 
 pub use arrays::code;

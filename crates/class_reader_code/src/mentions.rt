@@ -1,7 +1,7 @@
 //! The mentions of instructions, in the order of the code. A place here stands behind the whole code: mentions move its
 //! counter alone.
 
-ghost use Rattle.class_reader_code.specs.Needs.{wants};
+ghost use Rattle.jvm_code_needs.specs.Needs.{wants};
 ghost use Rattle.jvm_class_formats.specs.Reads.{Reads};
 ghost use Rattle.jvm_class_grammar.specs.Instructions.{counted_at, mentions_at};
 ghost use Rattle.jvm_class_grammar.specs.Kinds.{needed};
@@ -9,9 +9,9 @@ ghost use Rattle.jvm_code.specs.Decoding.{rows};
 ghost use Rattle.jvm_code_instructions.specs.Table.{row_of};
 ghost use Rattle.std.specs.Prelude.{◌+◌, ◌^◌, ◌<◌, Some};
 
-use crate::needs::{Need, need_of};
 use jvm_class_formats::{Place, ReadErr};
 use jvm_code::Instr;
+use jvm_code_needs::needs::{Need, need_of};
 use jvm_mentions::behind_mention;
 use jvm_pool::Pool;
 use std::alloc::Global;

@@ -1,5 +1,5 @@
--- What instructions need of the entries that they mention, and the place at which code is refused.
-use Rattle.std.specs.Prelude.{◌≡◌, ℕ, ◌+◌, Bool, List, Result, Ok}
+-- The place at which code is refused.
+use Rattle.std.specs.Prelude.{◌≡◌, ℕ, ◌+◌, List, Result, Ok}
 use Rattle.jvm_code_instructions.specs.Table.{Row}
 use Rattle.jvm_code.specs.declared.error.CodeErr.{CodeErr}
 use Rattle.jvm_code.specs.declared.error.CodeErr.TheVariants as code_err
@@ -7,14 +7,7 @@ use Rattle.jvm_pool.specs.declared.entries.Entry.{Entry}
 use Rattle.jvm_class_formats.specs.declared.errors.ReadErr.{ReadErr}
 use Rattle.jvm_class_formats.specs.declared.errors.ReadErr.TheVariants as read_err
 use Rattle.jvm_class_formats.specs.Formats.{Spot, ◌>>=◌}
-use Rattle.jvm_class_grammar.specs.Kinds.{is_of, is_called}
 use Rattle.jvm_class_grammar.specs.Instructions.{mentions_at}
-use Rattle.class_reader_code.specs.declared.needs.Need.{Need}
-use Rattle.class_reader_code.specs.declared.needs.Need.TheVariants as need
-
-abbrev pub wants : Need → Entry → Bool
-wants (need.Kind kind) = is_of kind
-wants (need.Called count) = is_called count
 
 -- what decoding refuses, as a refusal of the file
 abbrev pub Refused : CodeErr → ℕ → ReadErr → Type 0

@@ -1,6 +1,6 @@
 //! The entry that an instruction mentions (JVMS SE 8 §6.5).
 
-ghost use Rattle.class_reader_code.specs.Needs.{wants};
+ghost use Rattle.jvm_code_needs.specs.Needs.{wants};
 ghost use Rattle.jvm_class_grammar.specs.Kinds.{is_called, kind_of_opcode, needed};
 ghost use Rattle.jvm_code_instructions.specs.Table.{row_of};
 ghost use Rattle.jvm_code_opcodes.specs.Opcodes.{field_op_code, invoke_op_code};
