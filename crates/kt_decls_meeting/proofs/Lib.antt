@@ -1,0 +1,4 @@
+mod AgreeingSo
+mod AllKeys
+mod KeysParted
+mod MeetingSo
