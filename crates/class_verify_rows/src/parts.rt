@@ -58,6 +58,7 @@ pub fn bytes_of(alloc: Global, hex: &str) -> Result<Vec<u8>, AllocError> {
 /// The class of a letter.
 fn class_of(letter: u8) -> usize {
     match letter {
+        b'W' => 1,
         b'X' => 6,
         b'Y' => 12,
         b'S' => 9,
