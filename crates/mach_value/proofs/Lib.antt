@@ -1,0 +1,7 @@
+pub mod Opened
+pub mod Lumps
+pub mod Standing
+pub mod Weights
+pub mod Arriving
+pub mod Turns
+pub mod Advancing
