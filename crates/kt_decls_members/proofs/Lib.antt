@@ -1,0 +1,3 @@
+pub mod TakenOn
+mod FineMembers
+mod MembersJudged
