@@ -5,3 +5,4 @@ pub mod Weights
 pub mod Arriving
 pub mod Turns
 pub mod Advancing
+pub mod Changing

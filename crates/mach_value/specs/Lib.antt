@@ -5,3 +5,4 @@ pub mod Openings
 pub mod Exporting
 pub mod Imported
 pub mod Laws
+pub mod Access

@@ -1,9 +1,11 @@
 //! The heap of a coroutine.
 
+ghost use Rattle.mach_value.specs.Access.{changed_at};
 ghost use Rattle.mach_value.specs.Heaps.{address_behind, empty_heap, object_at};
 ghost use Rattle.std.specs.Option.{option_copied};
 ghost use Rattle.std.specs.Prelude.{◌≡◌, [], ◌∷◌, ◌++◌, ◌+◌, ◌<◌, ◌^◌, length, OnOk, OnErr};
 
+use crate::accessing::Change;
 use crate::objects::Object;
 use kt_base::NoMemory;
 use sqlite_items::Items;
@@ -74,6 +76,21 @@ impl Objects {
     {
         self.list.push(object)?;
         Ok(())
+    }
+
+    /// Makes a change of the object at an address, where there is one that has the place.
+    pub fn change(&mut self, address: u64, change: Change)
+        ensures { self.new ≡ changed_at change address self.old }
+    {
+        if address < 2 {
+            return;
+        }
+        let place = (address - 2) as usize;
+        if place >= self.list.len() {
+            return;
+        }
+        let object = &mut self.list[place];
+        object.change(change);
     }
 
     /// All of `more` behind the others.

@@ -1,6 +1,7 @@
 //! Values and objects of the machine, the heap of a coroutine, and what leaves it for another one.
 #![tactic(auto)]
 
+pub mod accessing;
 pub mod class_names;
 pub mod exporting;
 pub mod exports;
@@ -13,6 +14,7 @@ pub mod path;
 pub mod stack;
 pub mod values;
 
+pub use accessing::Change;
 pub use class_names::ClassName;
 pub use exports::{ExportErr, export};
 pub use heaps::{Heap, Note, Objects};
