@@ -1,2 +1,3 @@
+pub mod ConstantValues
 mod Told
 mod Loops

@@ -294,8 +294,9 @@ fn own_header(alloc: Global, constant: &ConstantDeclaration) -> Result<DeclaredC
     made(constant, annotation, value)
 }
 
-/// The header with what is written as its type.
-fn constant_header(
+/// The header with what is written as its type: `Refused` exactly where the value is of no basic type, or of another than
+/// the written one.
+pub fn constant_header(
     alloc: Global,
     classes: &ClassNames,
     constant: &ConstantDeclaration,

@@ -1,0 +1,6 @@
+mod ClassParts
+mod ClassesSo
+mod ConstantsSo
+mod Declared
+mod FunctionsSo
+mod Takings
