@@ -1,0 +1,9 @@
+pub mod Results
+pub mod Operands
+pub mod Texts
+pub mod Choices
+pub mod Loops
+pub mod Statements
+pub mod Calls
+pub mod Parts
+pub mod Frames
