@@ -1,2 +1,3 @@
 mod Names
 mod Joined
+pub mod IndexRules

@@ -2,6 +2,7 @@
 #![tactic(auto)]
 
 pub mod headers;
+mod indexing;
 pub mod making;
 pub mod places;
 pub mod table;

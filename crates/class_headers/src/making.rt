@@ -196,5 +196,5 @@ pub fn all_headers(alloc: Global, classes: &[ClassFile]) -> Result<ClassTable, N
     for class in classes {
         made.push(header_of_file(alloc, class)?)?;
     }
-    Ok(ClassTable::of(made))
+    ClassTable::of(alloc, made)
 }

@@ -4,7 +4,7 @@ ghost use Rattle.class_link.specs.Classes.{class_with, file_class, file_method, 
 ghost use Rattle.class_constants.specs.Constants.{constants};
 ghost use Rattle.class_members.specs.Above.{join, list_of, number_in};
 ghost use Rattle.class_members.specs.Members.{supers_at};
-ghost use Rattle.class_tables.specs.Dispatch.{AreOwnSlots, faces, slots_of, table};
+ghost use Rattle.class_tables.specs.Dispatch.{AreOwnSlots, AreSlots, faces, table};
 ghost use Rattle.class_tables.specs.Objects.{object_fields};
 ghost use Rattle.class_code.specs.Code.{linked_code};
 ghost use Rattle.std.specs.Prelude.{◌≡◌, ◌++◌, IfOk, OnOk, flat_map, map, option_map, slice_get};
@@ -16,7 +16,7 @@ use class_linked::{
     Constant, Face, LinkedClass, LinkedCode, LinkedField, LinkedMethod, MethodPlace,
 };
 use class_members::Hierarchy;
-use class_tables::{faces_of, linked_method, object_fields, slots_of, table_of};
+use class_tables::{Slots, faces_of, linked_method, object_fields, slots_of, table_of};
 use jvm_class_types::{ClassFile, ClassFlags, Code, Method};
 use kt_base::{Name, NoMemory};
 use sqlite_items::{Items, at};
@@ -41,13 +41,8 @@ fn above_of(h: &Hierarchy, class: usize) -> Option<usize>
     }
 }
 
-fn places_of(
-    alloc: Global,
-    h: &Hierarchy,
-    class: usize,
-    slots: &[MethodPlace],
-) -> Result<Places, NoMemory>
-    requires { slots.now ≡ slots_of h.now class }
+fn places_of(alloc: Global, h: &Hierarchy, class: usize, slots: &Slots) -> Result<Places, NoMemory>
+    requires { AreSlots h.now class slots.now }
     ensures { IfOk result (λ places. (places.above ≡ join (slice_get h.now.parents class))
         × (places.supers ≡ supers_at h.now class)
         × (places.fields ≡ object_fields h.now class)
@@ -81,10 +76,10 @@ fn class_with(
     alloc: Global,
     h: &Hierarchy,
     class: usize,
-    slots: &[MethodPlace],
+    slots: &Slots,
     parts: Parts,
 ) -> Result<LinkedClass, NoMemory>
-    requires { slots.now ≡ slots_of h.now class }
+    requires { AreSlots h.now class slots.now }
     ensures { IfOk result (λ made. made
         ≡ class_with h.now class parts.name parts.flags parts.interfaces parts.methods parts.constants) }
 {
@@ -111,10 +106,10 @@ fn own_methods(
     alloc: Global,
     h: &Hierarchy,
     class: usize,
-    slots: &[MethodPlace],
+    slots: &Slots,
     methods: &[MethodHeader],
 ) -> Result<Items<LinkedMethod>, NoMemory>
-    requires { slots.now ≡ slots_of h.now class }
+    requires { AreSlots h.now class slots.now }
     ensures { IfOk result (λ made. made ≡ map (own_method h.now class) methods.now) }
 {
     let mut made = Items::new(alloc);
@@ -146,7 +141,7 @@ pub(crate) fn own_class(
 {
     let slots = slots_of(alloc, h, rows, class)?;
     let name = own.name.clone()?;
-    let methods = own_methods(alloc, h, class, slots.as_slice(), own.methods.as_slice())?;
+    let methods = own_methods(alloc, h, class, &slots, own.methods.as_slice())?;
     let parts = Parts {
         name,
         flags: own.flags,
@@ -154,7 +149,7 @@ pub(crate) fn own_class(
         methods,
         constants: Items::new(alloc),
     };
-    class_with(alloc, h, class, slots.as_slice(), parts)
+    class_with(alloc, h, class, &slots, parts)
 }
 
 // ---- classes of class files
@@ -200,10 +195,10 @@ fn file_method(
     alloc: Global,
     h: &Hierarchy,
     class: usize,
-    slots: &[MethodPlace],
+    slots: &Slots,
     method: Method,
 ) -> Result<LinkedMethod, NoMemory>
-    requires { slots.now ≡ slots_of h.now class }
+    requires { AreSlots h.now class slots.now }
     ensures { IfOk result (λ made. made ≡ file_method h.now class method) }
 {
     let Method {
@@ -231,10 +226,10 @@ fn file_methods(
     alloc: Global,
     h: &Hierarchy,
     class: usize,
-    slots: &[MethodPlace],
+    slots: &Slots,
     methods: Vec<Method>,
 ) -> Result<Items<LinkedMethod>, NoMemory>
-    requires { slots.now ≡ slots_of h.now class }
+    requires { AreSlots h.now class slots.now }
     ensures { IfOk result (λ made. made ≡ map (file_method h.now class) methods.items) }
 {
     let mut made = Items::new(alloc);
@@ -247,7 +242,7 @@ fn file_methods(
 /// What is made of a class file without its methods.
 #[derive(Drop)]
 struct Mentions {
-    slots: Vec<MethodPlace>,
+    slots: Slots,
     interfaces: Items<usize>,
     constants: Items<Constant>,
 }
@@ -260,7 +255,7 @@ fn mentions_of(
     file: &ClassFile,
 ) -> Result<Mentions, NoMemory>
     requires { AreOwnSlots h.now rows.now }
-    ensures { IfOk result (λ made. (made.slots.items ≡ slots_of h.now class)
+    ensures { IfOk result (λ made. AreSlots h.now class made.slots
         × (made.interfaces ≡ flat_map (number_in h.now.headers) file.now.interfaces.items)
         × (made.constants ≡ constants h.now file.now.pool)) }
 {
@@ -281,7 +276,7 @@ fn with_methods(
     mentions: Mentions,
     file: ClassFile,
 ) -> Result<LinkedClass, NoMemory>
-    requires slots { mentions.slots.items ≡ slots_of h.now class }
+    requires slots { AreSlots h.now class mentions.slots }
     requires interfaces { mentions.interfaces ≡ flat_map (number_in h.now.headers) file.interfaces.items }
     requires constants { mentions.constants ≡ constants h.now file.pool }
     ensures { IfOk result (λ made. made ≡ file_class h.now class file) }
@@ -291,7 +286,7 @@ fn with_methods(
         interfaces,
         constants,
     } = mentions;
-    match file_methods(alloc, h, class, slots.as_slice(), file.methods) {
+    match file_methods(alloc, h, class, &slots, file.methods) {
         Ok(methods) => {
             let parts = Parts {
                 name: file.name,
@@ -300,7 +295,7 @@ fn with_methods(
                 methods,
                 constants,
             };
-            class_with(alloc, h, class, slots.as_slice(), parts)
+            class_with(alloc, h, class, &slots, parts)
         }
         Err(error) => Err(error),
     }

@@ -76,15 +76,18 @@ fn parent(parents: &[Option<usize>], class: Option<usize>) -> Option<usize>
     }
 }
 
-/// A class, the one above it, and so on.
-#[tactic(auto, using(crate::proofs::Chains::chain_next, crate::proofs::Chains::climbed_next), unfolding(crate::specs::Above::climbed, crate::specs::Above::chain_below))]
+/// A class, the one above it, and so on, until none is above.
+#[tactic(auto, using(crate::proofs::Chains::chain_next, crate::proofs::Chains::climbed_next, crate::proofs::Chains::chain_ends), unfolding(crate::specs::Above::climbed, crate::specs::Above::chain_below))]
 fn chain(alloc: Global, parents: &[Option<usize>], class: usize) -> Result<Items<usize>, NoMemory>
     ensures { IfOk result (λ chain. chain ≡ chain_of parents.now class) }
 {
     let mut chain = Items::new(alloc);
     let mut here = Some(class);
     for step in 0..parents.len() {
-        push_found(&mut chain, here)?;
+        match here {
+            None => return Ok(chain),
+            Some(next) => chain.push(next)?,
+        }
         here = parent(parents, here);
     }
     Ok(chain)

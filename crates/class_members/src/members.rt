@@ -2,11 +2,13 @@
 
 ghost use Rattle.class_members.specs.Members.{chain_at, constructor_found, field_found, first_member, inherited_found};
 ghost use Rattle.class_members.specs.Members.{interface_method_found, is_constructor_name, is_interface};
-ghost use Rattle.class_members.specs.Members.{is_interface_at, method_found, own_member, own_member_of, row_or_none, selected, supers_at};
+ghost use Rattle.class_members.specs.Members.{is_interface_at, method_found, row_or_none, selected, supers_at};
+ghost use Rattle.class_members.specs.Finding.{FindsMembers, first_at, first_by};
 ghost use Rattle.std.specs.Prelude.{◌≡◌, slice_get};
 
 use crate::hierarchy::Hierarchy;
-use class_headers::Header;
+use class_headers::ClassTable;
+use class_index::{MemberIndex, MemberKey};
 use jvm_class_types::ClassFlags;
 use sqlite_items::{Items, at};
 
@@ -21,34 +23,49 @@ pub enum MemberKind {
     Virtual,
 }
 
-fn place_of(header: &Header, kind: MemberKind, name: &[u8], descriptor: &[u8]) -> Option<usize>
-    ensures { result ≡ own_member kind name.now descriptor.now header.now }
+/// The members of a kind, by name and descriptor.
+#[tactic(auto, using(crate::proofs::Finding::fields_found, crate::proofs::Finding::methods_found, crate::proofs::Finding::virtuals_found))]
+fn index_of(headers: &ClassTable, kind: MemberKind) -> &MemberIndex
+    ensures { FindsMembers headers.now kind result.now }
 {
     match kind {
-        MemberKind::Field => header.field_place(name, descriptor),
-        MemberKind::Method => header.method_place(name, descriptor),
-        MemberKind::Virtual => header.virtual_place(name, descriptor),
+        MemberKind::Field => headers.fields(),
+        MemberKind::Method => headers.methods(),
+        MemberKind::Virtual => headers.virtuals(),
     }
 }
 
-fn place_in(
-    headers: &[Header],
-    class: usize,
-    kind: MemberKind,
+/// The first of several classes that has a member of a key, and its place there.
+fn first_at(index: &MemberIndex, classes: &[usize], key: MemberKey) -> Option<(usize, usize)>
+    ensures { result ≡ first_at index.now key classes.now }
+{
+    match classes {
+        [] => None,
+        [class, rest @ ..] => match index.at(*class, key) {
+            Some(place) => Some((*class, place)),
+            None => first_at(index, rest, key),
+        },
+    }
+}
+
+fn first_by(
+    index: &MemberIndex,
+    classes: &[usize],
     name: &[u8],
     descriptor: &[u8],
-) -> Option<usize>
-    ensures { result ≡ own_member_of kind name.now descriptor.now (slice_get headers.now class) }
+) -> Option<(usize, usize)>
+    ensures { result ≡ first_by index.now classes.now name.now descriptor.now }
 {
-    match at(headers, class) {
+    match index.key(name, descriptor) {
         None => None,
-        Some(header) => place_of(header, kind, name, descriptor),
+        Some(key) => first_at(index, classes, key),
     }
 }
 
-/// The first of several classes that declares a member, and its place there.
+/// The first of several classes that declares a member, and its place there. For each class it takes logarithmic time.
+#[tactic(auto, using(crate::proofs::Finding::first_found))]
 pub fn first_declared(
-    headers: &[Header],
+    headers: &ClassTable,
     classes: &[usize],
     kind: MemberKind,
     name: &[u8],
@@ -56,13 +73,7 @@ pub fn first_declared(
 ) -> Option<(usize, usize)>
     ensures { result ≡ first_member headers.now kind name.now descriptor.now classes.now }
 {
-    match classes {
-        [] => None,
-        [class, rest @ ..] => match place_in(headers, *class, kind, name, descriptor) {
-            Some(place) => Some((*class, place)),
-            None => first_declared(headers, rest, kind, name, descriptor),
-        },
-    }
+    first_by(index_of(headers, kind), classes, name, descriptor)
 }
 
 fn row_at(rows: &[Items<usize>], class: usize) -> &[usize]
@@ -119,13 +130,7 @@ impl Hierarchy {
         ensures { result ≡ field_found self.now class name.now descriptor.now }
     {
         let classes = self.chain(class);
-        first_declared(
-            self.headers.as_slice(),
-            classes,
-            MemberKind::Field,
-            name,
-            descriptor,
-        )
+        first_declared(&self.headers, classes, MemberKind::Field, name, descriptor)
     }
 
     fn constructor(&self, class: usize, name: &[u8], descriptor: &[u8]) -> Option<(usize, usize)>
@@ -133,7 +138,7 @@ impl Hierarchy {
     {
         let classes = [class];
         first_declared(
-            self.headers.as_slice(),
+            &self.headers,
             &classes,
             MemberKind::Method,
             name,
@@ -144,7 +149,7 @@ impl Hierarchy {
     fn inherited(&self, class: usize, name: &[u8], descriptor: &[u8]) -> Option<(usize, usize)>
         ensures { result ≡ inherited_found self.now class name.now descriptor.now }
     {
-        let headers = self.headers.as_slice();
+        let headers = &self.headers;
         let classes = self.chain(class);
         match first_declared(headers, classes, MemberKind::Method, name, descriptor) {
             Some(found) => Some(found),
@@ -176,7 +181,7 @@ impl Hierarchy {
     ) -> Option<(usize, usize)>
         ensures { result ≡ interface_method_found self.now class name.now descriptor.now }
     {
-        let headers = self.headers.as_slice();
+        let headers = &self.headers;
         let classes = [class, 0];
         match first_declared(headers, &classes, MemberKind::Method, name, descriptor) {
             Some(found) => Some(found),
@@ -193,7 +198,7 @@ impl Hierarchy {
     {
         let classes = self.chain(class);
         first_declared(
-            self.headers.as_slice(),
+            &self.headers,
             classes,
             MemberKind::Virtual,
             name,

@@ -10,6 +10,8 @@ use Rattle.jvm_class_types.specs.declared.flags.MethodFlags.{MethodFlags}
 use Rattle.class_headers.specs.declared.headers.Header.{Header}
 use Rattle.class_headers.specs.declared.headers.MethodHeader.{MethodHeader}
 use Rattle.class_headers.specs.Places.{is_called_with_object, is_method}
+use Rattle.class_index.specs.declared.members.MemberIndex.{MemberIndex}
+use Rattle.class_index.specs.Members.{member_in}
 use Rattle.class_linked.specs.declared.classes.Face.{Face}
 use Rattle.class_linked.specs.declared.code.LinkedCode.{LinkedCode}
 use Rattle.class_linked.specs.declared.methods.LinkedMethod.{LinkedMethod}
@@ -23,6 +25,7 @@ use Rattle.class_members.specs.declared.members.MemberKind.TheVariants as kind
 use Rattle.class_members.specs.Members.{chain_at, first_member, is_constructor_name, is_interface_at, or_else}
 use Rattle.class_members.specs.Members.{selected, supers_at}
 use Rattle.class_missing.specs.Missing.{methods_of}
+use Rattle.class_tables.specs.declared.slots.Slots.{Slots}
 use Rattle.class_constants.specs.Fields.{above_in}
 use Rattle.class_constants.specs.Kinds.{parameter_kinds, result_kind}
 
@@ -153,3 +156,14 @@ row_or_none (Some row) = row
 
 abbrev pub AreOwnSlots : Hierarchy → List (List MethodPlace) → Type 0
 AreOwnSlots h rows = (c : ℕ) → row_or_none (slice_get rows c) ≡ own_slots h c
+
+-- ---- the slots of a class, and an index of them
+
+-- the index has the first slot of each name and descriptor, as a member of class 0
+abbrev pub FindsSlots : Hierarchy → List MethodPlace → MemberIndex → Type 0
+FindsSlots h slots index = (name descriptor : List ℕ) →
+    member_in index 0 name descriptor ≡ position (λ s. is_like name descriptor (header_of h s)) slots
+
+pub record AreSlots (h : Hierarchy) (c : ℕ) (slots : Slots) : Type 0 where
+  pub are : slots.places.items ≡ slots_of h c
+  pub found : FindsSlots h (slots_of h c) slots.index

@@ -22,7 +22,7 @@ fn stands_for(h: &Hierarchy, class: usize, interface: usize, method: &MethodHead
         None => {
             let itself = [interface];
             placed(first_declared(
-                h.headers.as_slice(),
+                &h.headers,
                 &itself,
                 MemberKind::Method,
                 method.name.as_slice(),

@@ -12,5 +12,5 @@ pub mod table;
 pub use faces::faces_of;
 pub use fields::object_fields;
 pub use methods::linked_method;
-pub use slots::{all_own_slots, slots_of};
+pub use slots::{Slots, all_own_slots, slots_of};
 pub use table::table_of;

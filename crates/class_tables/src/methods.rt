@@ -1,11 +1,12 @@
 //! Methods, each class that they name by its number.
 
-ghost use Rattle.class_tables.specs.Dispatch.{is_resumption, linked_method, role_of, slots_of};
+ghost use Rattle.class_tables.specs.Dispatch.{AreSlots, is_resumption, linked_method, role_of};
 ghost use Rattle.std.specs.Prelude.{◌≡◌, IfOk};
 
 use crate::selecting::selector_of;
+use crate::slots::Slots;
 use class_constants::{Signature, signature_of};
-use class_linked::{LinkedCode, LinkedMethod, MethodPlace, Role};
+use class_linked::{LinkedCode, LinkedMethod, Role};
 use class_members::Hierarchy;
 use jvm_class_types::MethodFlags;
 use kt_base::NoMemory;
@@ -35,13 +36,13 @@ pub fn linked_method(
     alloc: Global,
     h: &Hierarchy,
     class: usize,
-    slots: &[MethodPlace],
+    slots: &Slots,
     flags: MethodFlags,
     name: &[u8],
     descriptor: &[u8],
     code: Option<LinkedCode>,
 ) -> Result<LinkedMethod, NoMemory>
-    requires { slots.now ≡ slots_of h.now class }
+    requires { AreSlots h.now class slots.now }
     ensures { IfOk result (λ made. made ≡ linked_method h.now class flags name.now descriptor.now code) }
 {
     match signature_of(alloc, &h.headers, descriptor) {

@@ -2,12 +2,15 @@
 //! has.
 
 ghost use Rattle.class_tables.specs.Dispatch.{AreOwnSlots, has_above, is_new, methods_at, new_before, own_slots};
-ghost use Rattle.class_tables.specs.Dispatch.{place_if, row_or_none, slots_of};
-ghost use Rattle.std.specs.Prelude.{◌≡◌, ◌++◌, IfOk, OnOk, length, slice_get};
+ghost use Rattle.class_index.specs.Members.{IsWhole, member_in};
+ghost use Rattle.class_index.specs.Texts.{or_at};
+ghost use Rattle.class_tables.specs.Dispatch.{AreSlots, FindsSlots, header_of, is_like, place_if, row_or_none, slots_of};
+ghost use Rattle.std.specs.Prelude.{◌≡◌, ◌++◌, ℕ, List, IfOk, OnOk, length, slice_get};
 
-use crate::headers::{is_selectable, methods_at, reversed};
+use crate::headers::{header_of, is_selectable, methods_at, reversed};
 use class_constants::fields::above_in;
 use class_headers::MethodHeader;
+use class_index::MemberIndex;
 use class_linked::MethodPlace;
 use class_members::members::first_declared;
 use class_members::{Hierarchy, MemberKind};
@@ -20,7 +23,7 @@ fn has_above(h: &Hierarchy, class: usize, method: &MethodHeader) -> bool
     ensures { result ≡ has_above h.now class method.now }
 {
     let found = first_declared(
-        h.headers.as_slice(),
+        &h.headers,
         above_in(h.chain(class)),
         MemberKind::Virtual,
         method.name.as_slice(),
@@ -99,9 +102,17 @@ fn row_at(rows: &[Items<MethodPlace>], class: usize) -> &[MethodPlace]
     }
 }
 
+/// The slots of a class, and the first slot of each name and descriptor.
+#[derive(Drop)]
+pub struct Slots {
+    pub places: Vec<MethodPlace>,
+    /// The slots stand in it as members of class 0.
+    pub index: MemberIndex,
+}
+
 /// The slots of a class, those of the class above first.
 #[tactic(auto, using(class_constants::proofs::Growing::flat_grows))]
-pub fn slots_of(
+fn places_of(
     alloc: Global,
     h: &Hierarchy,
     rows: &[Items<MethodPlace>],
@@ -116,4 +127,55 @@ pub fn slots_of(
         made.extend_from_slice(row_at(rows, *each))?;
     }
     Ok(made)
+}
+
+/// Adds a slot by the name and the descriptor of its method.
+#[tactic(auto, using(crate::proofs::Slotting::none_added))]
+fn add_slot(
+    alloc: Global,
+    h: &Hierarchy,
+    index: &mut MemberIndex,
+    place: &MethodPlace,
+    slot: usize,
+) -> Result<(), NoMemory>
+    requires { IsWhole index.old }
+    ensures added { OnOk result ((n d : List ℕ) →
+        member_in index.new 0 n d ≡ or_at (member_in index.old 0 n d) (is_like n d (header_of h.now place.now)) slot) }
+    ensures whole { OnOk result (IsWhole index.new) }
+{
+    match header_of(h, *place) {
+        None => Ok(()),
+        Some(method) => index.add(
+            alloc,
+            0,
+            method.name.as_slice(),
+            method.descriptor.as_slice(),
+            slot,
+        ),
+    }
+}
+
+fn index_of(alloc: Global, h: &Hierarchy, places: &[MethodPlace]) -> Result<MemberIndex, NoMemory>
+    ensures { IfOk result (FindsSlots h.now places.now) }
+{
+    let mut index = MemberIndex::new(alloc);
+    for slot in 0..places.len() {
+        add_slot(alloc, h, &mut index, &places[slot], slot)?;
+    }
+    Ok(index)
+}
+
+/// The slots of a class, those of the class above first.
+pub fn slots_of(
+    alloc: Global,
+    h: &Hierarchy,
+    rows: &[Items<MethodPlace>],
+    class: usize,
+) -> Result<Slots, NoMemory>
+    requires { AreOwnSlots h.now rows.now }
+    ensures { IfOk result (AreSlots h.now class) }
+{
+    let places = places_of(alloc, h, rows, class)?;
+    let index = index_of(alloc, h, places.as_slice())?;
+    Ok(Slots { places, index })
 }

@@ -1,10 +1,11 @@
 //! Tables of methods.
 
 ghost use Rattle.class_members.specs.Members.{selected};
-ghost use Rattle.class_tables.specs.Dispatch.{header_of, placed, selected_like, slots_of, table};
+ghost use Rattle.class_tables.specs.Dispatch.{AreSlots, header_of, placed, selected_like, table};
 ghost use Rattle.std.specs.Prelude.{◌≡◌, IfOk};
 
 use crate::headers::header_of;
+use crate::slots::Slots;
 use class_headers::MethodHeader;
 use class_linked::MethodPlace;
 use class_members::Hierarchy;
@@ -44,13 +45,13 @@ pub fn table_of(
     alloc: Global,
     h: &Hierarchy,
     class: usize,
-    slots: &[MethodPlace],
+    slots: &Slots,
 ) -> Result<Items<MethodPlace>, NoMemory>
-    requires { slots.now ≡ slots_of h.now class }
+    requires { AreSlots h.now class slots.now }
     ensures { IfOk result (λ made. made ≡ table h.now class) }
 {
     let mut made = Items::new(alloc);
-    for slot in slots {
+    for slot in slots.places.as_slice() {
         made.push(chosen(h, class, *slot))?;
     }
     Ok(made)

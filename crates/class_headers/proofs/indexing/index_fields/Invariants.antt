@@ -1,0 +1,7 @@
+use Rattle.std.proofs.Common.{take}
+use Rattle.class_headers.specs.Indexed.{FindsFields}
+use Rattle.class_index.specs.Members.{IsWhole}
+use Rattle.class_headers.proofs.indexing.index_fields.Given as goal
+
+abbrev pub invariant-loop-class : goal.invariant-loop-class
+invariant-loop-class l = IsWhole l.index × FindsFields (take l.class l.headers) l.index

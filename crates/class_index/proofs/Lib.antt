@@ -1,0 +1,3 @@
+pub mod Tests
+mod AddingTexts
+mod AddingMembers
