@@ -1,5 +1,5 @@
 -- The methods of `kt/rt/Cells` and of `kt/rt/Out`: what a coroutine asks.
-use Rattle.std.specs.Prelude.{◌≡◌, ℕ, Bool, true, false, ◌||◌, ◌==◌, if◌then◌else◌, List, [], ◌∷◌, Option, Some, None, is_some}
+use Rattle.std.specs.Prelude.{◌≡◌, ℕ, Bool, true, false, ◌||◌, ◌==◌, if◌then◌else◌, List, [], ◌∷◌, Option, Some, None, is_some, position, remove}
 use Rattle.std.specs.List.{list_any}
 use Rattle.kt_base.specs.declared.lumps.Node.{Node}
 use Rattle.kt_base.specs.declared.lumps.Lump.{Lump}
@@ -43,9 +43,12 @@ abbrev pub cells_make : Heap → Course
 cells_make heap = unless (asking_fault false heap) (asks event.Draw)
 
 -- the cells without the first of this number
+abbrev pub without_at : Option ℕ → List ℕ → List ℕ
+without_at None cells = cells
+without_at (Some at) cells = remove cells at
+
 abbrev pub without : ℕ → List ℕ → List ℕ
-without c [] = []
-without c (d ∷ ds) = if d == c then ds else d ∷ without c ds
+without c cells = without_at (position (λ d. d == c) cells) cells
 
 abbrev pub noting : ℕ → ℕ → Heap → Heap
 noting c k heap = record heap {

@@ -12,6 +12,7 @@ pub mod laws;
 pub mod objects;
 pub mod path;
 pub mod stack;
+pub mod traces;
 pub mod values;
 
 pub use accessing::Change;
@@ -21,4 +22,5 @@ pub use heaps::{Heap, Note, Objects};
 pub use imports::import;
 pub use objects::{Instance, Object, Phase};
 pub use stack::Stack;
+pub use traces::{Parcel, Step, Trace};
 pub use values::{Field, FieldKind, Value};
