@@ -1,0 +1,5 @@
+mod Lists
+mod Bounds
+mod Chains
+mod Classes
+mod Closing
