@@ -1,5 +1,5 @@
 -- What code reads of objects and writes into them.
-use Rattle.std.specs.Prelude.{ℕ, ℤ, ◌-◌, List, length, slice_get, slice_set, Option, Some, None, option_map, option_and_then}
+use Rattle.std.specs.Prelude.{ℕ, ℤ, ◌-◌, nat_lt, if◌then◌else◌, List, length, slice_get, slice_set, Option, Some, None, option_map, option_and_then}
 use Rattle.mach_value.specs.declared.values.Value.{Value}
 use Rattle.mach_value.specs.declared.values.Field.{Field}
 use Rattle.mach_value.specs.declared.objects.Instance.{Instance}
@@ -84,3 +84,7 @@ replaced (Some object) change a objects = slice_set objects (a - 2) (changed_by 
 
 abbrev pub changed_at : Change → ℕ → List Object → List Object
 changed_at change a objects = replaced (object_at objects a) change a objects
+
+-- the objects with another one at an address
+abbrev pub put_at : ℕ → Object → List Object → List Object
+put_at a object objects = if nat_lt a 2 then objects else slice_set objects (a - 2) object

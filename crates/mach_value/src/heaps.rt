@@ -1,6 +1,6 @@
 //! The heap of a coroutine.
 
-ghost use Rattle.mach_value.specs.Access.{changed_at};
+ghost use Rattle.mach_value.specs.Access.{changed_at, put_at};
 ghost use Rattle.mach_value.specs.Heaps.{address_behind, empty_heap, object_at};
 ghost use Rattle.std.specs.Option.{option_copied};
 ghost use Rattle.std.specs.Prelude.{◌≡◌, [], ◌∷◌, ◌++◌, ◌+◌, ◌<◌, ◌^◌, length, OnOk, OnErr};
@@ -91,6 +91,19 @@ impl Objects {
         }
         let object = &mut self.list[place];
         object.change(change);
+    }
+
+    /// Puts another object to an address, where there is one.
+    pub fn put(&mut self, address: u64, object: Object)
+        ensures { self.new ≡ put_at address object self.old }
+    {
+        if address < 2 {
+            return;
+        }
+        let place = (address - 2) as usize;
+        if place < self.list.len() {
+            self.list[place] = object;
+        }
     }
 
     /// All of `more` behind the others.

@@ -33,8 +33,8 @@ fn address_behind(first: u64, count: usize) -> Result<u64, NoMemory>
     }
 }
 
-/// A field that a node of a number is.
-fn final_field(kind: FieldKind, value: Value) -> Field
+/// A field of an object that comes in a lump.
+pub fn final_field(kind: FieldKind, value: Value) -> Field
     ensures { result ≡ spec.final_field kind value }
 {
     Field {
@@ -152,7 +152,7 @@ fn int_box(kind: FieldKind, number: i32) -> Option<Object>
 }
 
 /// The box of a number; none for a reference.
-fn box_of(field: Field) -> Option<Object>
+pub fn box_of(field: Field) -> Option<Object>
     ensures { result ≡ spec.box_of field.kind field.value }
 {
     match field.value {
