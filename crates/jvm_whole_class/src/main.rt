@@ -1,6 +1,6 @@
 //! Writes the class file of a class that has everything that the format has, as hexadecimal digits on one line:
-//! interfaces, fields of each type, an abstract method, each kind of mention, both switches, wide forms, handlers, and a
-//! frame in each form. The class is put together from its parts.
+//! interfaces, fields of each type, an abstract method, each kind of mention, both switches, wide forms, handlers, and
+//! a frame in each form. The class is put together from its parts.
 #![tactic(auto)]
 
 mod class;

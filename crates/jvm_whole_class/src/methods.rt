@@ -1,4 +1,5 @@
-//! The methods of the class: an abstract one, a constructor, one with each kind of mention, one with each form of a frame.
+//! The methods of the class: an abstract one, a constructor, one with each kind of mention, one with each form of a
+//! frame.
 
 use crate::code::{constructor, forms, instructions, mentions};
 use crate::errors::Unbuilt;

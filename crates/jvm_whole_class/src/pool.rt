@@ -15,7 +15,8 @@ pub(crate) fn name(alloc: Global, text: &str) -> Result<Name, Unbuilt> {
 }
 
 /// What is mentioned first in the class, in order: `U` a text, `C` a class, `M` and `I` a method of a class and of an
-/// interface, `F` a field, `N` the number 1,000,000, `L` the least `long`, `S` a text with half of a pair of surrogates.
+/// interface, `F` a field, `N` the number 1,000,000, `L` the least `long`, `S` a text with half of a pair of
+/// surrogates.
 fn mentions() -> [(char, &'static str, &'static str, &'static str); 35] {
     [
         ('C', "a/Whole", "", ""),
