@@ -1,6 +1,6 @@
 -- The names of the machine's classes are ASCII.
 use Rattle.std.proofs.Common.{ℕ, suc, zero, Bool, true, false, ◌≡◌, ◌<◌, refl, List, [], ◌∷◌, arith}
-use Rattle.std.specs.Prelude.{codes, nat_lt, slice_index, ◌&&◌}
+use Rattle.std.specs.Prelude.{codes, nat_lt, ◌&&◌}
 use Rattle.std.specs.List.{list_all}
 use Rattle.std.specs.Str.{IsAscii}
 use Rattle.jvm_runtime.specs.declared.classes.RuntimeClass.{RuntimeClass}

@@ -1,5 +1,5 @@
 -- All classes that a program has: those of the machine, the two of arrays, and those of its class files.
-use Rattle.std.specs.Prelude.{ℕ, List, [], ◌∷◌, ◌++◌, map, Option, Some, option_map, codes}
+use Rattle.std.specs.Prelude.{ℕ, List, [], ◌∷◌, ◌++◌, map, Some, option_map, codes}
 use Rattle.jvm_class_types.specs.Seen.{Field, Method, Class}
 use Rattle.jvm_class_types.specs.declared.flags.ClassFlags.TheVariants as flag
 use Rattle.jvm_runtime.specs.declared.classes.RuntimeClass.{RuntimeClass}

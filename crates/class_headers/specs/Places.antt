@@ -1,5 +1,5 @@
 -- Classes by their number, and members by their place in their class.
-use Rattle.std.specs.Prelude.{ℕ, Bool, true, false, ◌&&◌, List, Option, Some, None, position, bytes_eq, slice_get}
+use Rattle.std.specs.Prelude.{ℕ, Bool, true, false, ◌&&◌, List, Option, position, bytes_eq}
 use Rattle.jvm_class_types.specs.declared.flags.MethodFlags.{MethodFlags}
 use Rattle.jvm_class_types.specs.declared.flags.MethodFlags.TheVariants as flag
 use Rattle.class_headers.specs.declared.headers.FieldHeader.{FieldHeader}

@@ -1,13 +1,13 @@
 -- What is found by its name is there.
-use Rattle.std.proofs.Common.{◌≡◌, ℕ, ◌<◌, refl, sym, ap, subst, ◌∙◌, Bool, true, false, List, [], ◌∷◌, length, Option, Some, None}
+use Rattle.std.proofs.Common.{◌≡◌, ℕ, ◌<◌, refl, subst, Bool, true, false, List, [], ◌∷◌, length, Option, Some, None}
 use Rattle.std.specs.Prelude.{slice_get, bytes_eq}
 use Rattle.class_headers.specs.declared.headers.Header.{Header}
-use Rattle.class_headers.specs.Places.{number_of, own_field, own_method, own_virtual}
+use Rattle.class_headers.specs.Places.{number_of, own_field, own_method}
 use Rattle.class_members.specs.declared.hierarchy.Hierarchy.{Hierarchy}
 use Rattle.class_members.specs.declared.members.MemberKind.{MemberKind}
 use Rattle.class_members.specs.declared.members.MemberKind.TheVariants as kind
 use Rattle.class_members.specs.Members.{by_name, chain_at, constructor_found, field_found, first_member, found_in, inherited_found}
-use Rattle.class_members.specs.Members.{interface_method_found, is_constructor_name, is_interface_at, method_found, or_else, own_member, own_member_of, supers_at}
+use Rattle.class_members.specs.Members.{interface_method_found, is_constructor_name, method_found, or_else, own_member, own_member_of, supers_at}
 use Rattle.class_missing.specs.Mentions.{field_named, interface_method_named, method_named, only_if, then_found}
 use Rattle.class_constants.specs.Kinds.{class_of, or_root}
 use Rattle.class_link_laws.proofs.Lists.{position_within, some_is}

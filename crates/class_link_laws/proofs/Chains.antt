@@ -1,12 +1,11 @@
 -- The chain above a class begins with it, so its fields stand behind those of the classes above.
-use Rattle.std.proofs.Common.{◌≡◌, ℕ, zero, suc, ◌+◌, ◌<◌, refl, sym, ap, subst, ◌∙◌, List, [], ◌∷◌, ◌++◌, map, length, length-append, Option, Some, None, arith}
-use Rattle.std.specs.Prelude.{slice_get, flat_map, reverse}
+use Rattle.std.proofs.Common.{◌≡◌, ℕ, zero, suc, ◌+◌, ◌<◌, refl, sym, ap, ◌∙◌, List, [], ◌∷◌, ◌++◌, length, length-append, Option, arith}
+use Rattle.std.specs.Prelude.{flat_map, reverse}
 use Rattle.std.proofs.lemmas.List.{flat_map_more, length-map, reverse-append}
 use Rattle.class_headers.specs.declared.headers.Header.{Header}
 use Rattle.class_members.specs.declared.hierarchy.Hierarchy.{Hierarchy}
-use Rattle.class_members.specs.Above.{AreChains, chain_below, chain_of, climbed, list_of}
+use Rattle.class_members.specs.Above.{AreChains, chain_below, climbed, list_of}
 use Rattle.class_members.specs.Members.{chain_at, row_or_none}
-use Rattle.class_linked.specs.declared.classes.LinkedField.{LinkedField}
 use Rattle.class_constants.specs.Fields.{above_in, fields_above, fields_at, fields_declared}
 use Rattle.class_tables.specs.Objects.{object_field, object_fields, own_object_fields}
 use Rattle.class_link_laws.proofs.Lists.{some_at}

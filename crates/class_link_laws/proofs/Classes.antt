@@ -1,5 +1,5 @@
 -- Linked classes by their numbers.
-use Rattle.std.proofs.Common.{◌≡◌, ℕ, zero, suc, ◌+◌, ◌<◌, ◌≤◌, ◌⊎◌, inl, inr, refl, sym, ap, subst, ◌∙◌, List, [], ◌∷◌, ◌++◌, map, take, length, length-append, Option, Some, None, arith}
+use Rattle.std.proofs.Common.{◌≡◌, ℕ, zero, suc, ◌+◌, ◌<◌, ◌⊎◌, inl, inr, refl, sym, ap, subst, ◌∙◌, List, [], ◌∷◌, ◌++◌, map, take, length, length-append, Some, arith}
 use Rattle.std.specs.Prelude.{slice_get}
 use Rattle.std.proofs.lemmas.List.{length-map}
 use Rattle.std.proofs.lemmas.Option.{slice_get_within}
@@ -7,14 +7,14 @@ use Rattle.jvm_class_types.specs.Seen.{class_seen, method_seen}
 use Rattle.jvm_class_types.specs.declared.classes.ClassFile.{ClassFile}
 use Rattle.jvm_runtime.specs.Classes.{runtime_classes}
 use Rattle.class_headers.specs.declared.headers.Header.{Header}
-use Rattle.class_headers.specs.Headers.{file_header, headers_of, method_header, own_headers}
+use Rattle.class_headers.specs.Headers.{file_header, method_header, own_headers}
 use Rattle.class_members.specs.declared.hierarchy.Hierarchy.{Hierarchy}
 use Rattle.class_linked.specs.Numbers.{first_file_class}
 use Rattle.class_linked.specs.declared.classes.LinkedClass.{LinkedClass}
 use Rattle.class_link.specs.Classes.{file_class, file_classes, file_method, linked_of, own_class, own_classes, own_method}
 use Rattle.class_tables.specs.Objects.{object_fields}
 use Rattle.class_link_laws.specs.Closed.{fields_of, methods_of}
-use Rattle.class_link_laws.proofs.Lists.{get_append, get_before, get_behind, get_map, map_get, some_at, some_is, take_front}
+use Rattle.class_link_laws.proofs.Lists.{get_append, get_before, get_behind, map_get, some_at, some_is, take_front}
 
 own_at : (h : Hierarchy) (c : ℕ) (os : List Header) (i : ℕ) (k : LinkedClass) → slice_get (own_classes h c os) i ≡ Some k → (o : Header) × (slice_get os i ≡ Some o) × (k ≡ own_class h (c + i) o)
 own_at h c [] i k e = cc

@@ -1,5 +1,5 @@
 -- What each linked class names is there.
-use Rattle.std.proofs.Common.{◌≡◌, ℕ, zero, suc, ◌+◌, ◌<◌, ◌≤◌, ◌⊎◌, inl, inr, refl, sym, ap, subst, ◌∙◌, Bool, true, false, List, [], ◌∷◌, ◌++◌, map, take, length, length-append, Option, Some, None, arith}
+use Rattle.std.proofs.Common.{◌≡◌, ℕ, zero, suc, ◌+◌, ◌<◌, inl, inr, refl, sym, ap, subst, ◌∙◌, Bool, true, false, List, [], ◌∷◌, ◌++◌, map, length, length-append, Option, Some, None, arith}
 use Rattle.std.specs.Prelude.{slice_get, flat_map, ◌==◌, ◌||◌}
 use Rattle.std.specs.List.{list_any}
 use Rattle.std.proofs.lemmas.List.{length-map}
@@ -9,16 +9,14 @@ use Rattle.jvm_class_types.specs.declared.classes.ClassFile.{ClassFile}
 use Rattle.jvm_pool.specs.declared.entries.Entry.{Entry}
 use Rattle.jvm_pool.specs.declared.entries.Entry.TheVariants as entry
 use Rattle.class_headers.specs.declared.headers.Header.{Header}
-use Rattle.class_headers.specs.Headers.{file_header, headers_of, own_headers}
+use Rattle.class_headers.specs.Headers.{file_header, own_headers}
 use Rattle.class_headers.specs.Places.{number_of}
-use Rattle.class_supers.specs.Graph.{AreAllSupers, Has}
+use Rattle.class_supers.specs.Graph.{Has}
 use Rattle.class_members.specs.declared.hierarchy.Hierarchy.{Hierarchy}
 use Rattle.class_members.specs.declared.members.MemberKind.TheVariants as kind
 use Rattle.class_members.specs.Above.{AreChains, IsHierarchy, join, links_of, list_of, number_in, parent_of, then_number}
 use Rattle.class_members.specs.Members.{row_or_none, supers_at}
 use Rattle.class_missing.specs.Mentions.{field_named, interface_method_named, method_named}
-use Rattle.class_linked.specs.declared.classes.Linked.{Linked}
-use Rattle.class_linked.specs.declared.classes.LinkedClass.{LinkedClass}
 use Rattle.class_linked.specs.declared.constants.Constant.{Constant}
 use Rattle.class_linked.specs.declared.constants.Constant.TheVariants as constant
 use Rattle.class_constants.specs.Constants.{at_indices, constant_of, constants, field_constant, interface_method_constant, method_constant}
@@ -26,9 +24,8 @@ use Rattle.class_constants.specs.Fields.{fields_above, fields_at}
 use Rattle.class_constants.specs.Fields.{fields_of as fields_in}
 use Rattle.class_constants.specs.Kinds.{class_of}
 use Rattle.class_link.specs.Classes.{file_class, linked_of, own_class}
-use Rattle.class_link.specs.Linking.{AreLinked}
 use Rattle.class_link_laws.specs.Closed.{AreClosed, IsThere, LinkedAreClosed, NamesWhatIsThere, methods_of}
-use Rattle.class_link_laws.proofs.Lists.{flat_each, get_map, some_at, some_is}
+use Rattle.class_link_laws.proofs.Lists.{flat_each, get_map, some_is}
 use Rattle.class_link_laws.proofs.Bounds.{Declares, class_within, field_declares, field_place, interface_method_declares, method_declares, method_place, number_within}
 use Rattle.class_link_laws.proofs.Chains.{slot_within}
 use Rattle.class_link_laws.proofs.Classes.{as_long, class_at, has_fields, has_methods, own_count}

@@ -1,14 +1,14 @@
 -- What is found by an index is what the classes declare.
-use Rattle.std.proofs.Common.{◌≡◌, refl, sym, ap, ◌∙◌, ℕ, List, [], ◌∷◌, Option, Some, None}
+use Rattle.std.proofs.Common.{◌≡◌, refl, ap, ◌∙◌, ℕ, List, [], ◌∷◌, Option, Some, None}
 use Rattle.std.specs.Prelude.{slice_get}
 use Rattle.class_headers.specs.declared.headers.Header.{Header}
 use Rattle.class_headers.specs.Indexed.{FindsFields, FindsMethods, FindsVirtuals, own_of}
 use Rattle.class_headers.specs.Places.{own_field, own_method, own_virtual}
 use Rattle.class_index.specs.declared.members.MemberIndex.{MemberIndex}
 use Rattle.class_index.specs.declared.members.MemberKey.{MemberKey}
-use Rattle.class_index.specs.Members.{key_in, member_in, then_place}
+use Rattle.class_index.specs.Members.{key_in, then_place}
 use Rattle.class_members.specs.Members.{first_member, found_in, own_member_of}
-use Rattle.class_members.specs.Finding.{FindsMembers, first_at, first_by, first_of_key}
+use Rattle.class_members.specs.Finding.{FindsMembers, first_by, first_of_key}
 use Rattle.class_members.specs.declared.members.MemberKind.{MemberKind}
 use Rattle.class_members.specs.declared.members.MemberKind.TheVariants as kind
 

@@ -1,8 +1,7 @@
 -- One more slot in an index.
-use Rattle.std.proofs.Common.{ℕ, zero, suc, ◌+◌, ◌<◌, Bool, true, false, ◌≡◌, refl, ap, ◌∙◌, List, [], ◌∷◌, Option, Some, None, length, take, arith}
-use Rattle.std.specs.Prelude.{bytes_eq, ◌&&◌, ◌==◌, slice_index_or}
+use Rattle.std.proofs.Common.{ℕ, zero, suc, ◌+◌, ◌<◌, false, ◌≡◌, refl, ap, ◌∙◌, List, [], ◌∷◌, Option, Some, None, length, take, arith}
+use Rattle.std.specs.Prelude.{slice_index_or}
 use Rattle.class_headers.proofs.IndexRules.{position_next}
-use Rattle.class_headers.specs.declared.headers.MethodHeader.{MethodHeader}
 use Rattle.class_index.specs.declared.members.MemberIndex.{MemberIndex}
 use Rattle.class_index.specs.Members.{member_in}
 use Rattle.class_index.specs.Texts.{or_at}

@@ -4,10 +4,9 @@
 -- A class has a slot for each method that it declares and that no class above has, behind the slots of the class above.
 -- So a slot stands for the same method in each class below.
 use Rattle.std.specs.Prelude.{◌≡◌, ℕ, zero, suc, Bool, true, false, not, ◌&&◌, List, [], ◌∷◌, ◌++◌, length, map}
-use Rattle.std.specs.Prelude.{filter, reverse, flat_map, position, Option, None, Some, is_some, option_map, bytes_eq}
+use Rattle.std.specs.Prelude.{filter, reverse, flat_map, position, Option, None, Some, is_some, bytes_eq}
 use Rattle.std.specs.Prelude.{codes, slice_get, if◌then◌else◌}
 use Rattle.jvm_class_types.specs.declared.flags.MethodFlags.{MethodFlags}
-use Rattle.class_headers.specs.declared.headers.Header.{Header}
 use Rattle.class_headers.specs.declared.headers.MethodHeader.{MethodHeader}
 use Rattle.class_headers.specs.Places.{is_called_with_object, is_method}
 use Rattle.class_index.specs.declared.members.MemberIndex.{MemberIndex}

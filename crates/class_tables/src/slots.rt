@@ -4,7 +4,8 @@
 ghost use Rattle.class_tables.specs.Dispatch.{AreOwnSlots, has_above, is_new, methods_at, new_before, own_slots};
 ghost use Rattle.class_index.specs.Members.{IsWhole, member_in};
 ghost use Rattle.class_index.specs.Texts.{or_at};
-ghost use Rattle.class_tables.specs.Dispatch.{AreSlots, FindsSlots, header_of, is_like, place_if, row_or_none, slots_of};
+ghost use Rattle.class_tables.specs.Dispatch.{AreSlots, FindsSlots, header_of, is_like, place_if, row_or_none};
+ghost use Rattle.class_tables.specs.Dispatch.{slots_of};
 ghost use Rattle.std.specs.Prelude.{◌≡◌, ◌++◌, ℕ, List, IfOk, OnOk, length, slice_get};
 
 use crate::headers::{header_of, is_selectable, methods_at, reversed};
