@@ -1,0 +1,3 @@
+mod AsciiNames
+mod FirstUp
+mod Whole

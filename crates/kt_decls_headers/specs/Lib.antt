@@ -1,0 +1,4 @@
+pub mod Functions
+pub mod Overridden
+pub mod Classes
+pub mod Files
