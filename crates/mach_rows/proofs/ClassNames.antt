@@ -1,6 +1,6 @@
 -- The names of the classes that are thrown are ASCII.
 use Rattle.std.proofs.Common.{ℕ, suc, zero, Bool, true, false, ◌≡◌, ◌<◌, refl, List, [], ◌∷◌, arith}
-use Rattle.std.specs.Prelude.{codes, nat_lt, slice_index, ◌&&◌}
+use Rattle.std.specs.Prelude.{nat_lt, ◌&&◌}
 use Rattle.std.specs.List.{list_all}
 use Rattle.std.specs.Str.{IsAscii}
 use Rattle.mach_rows.specs.declared.throwing.Fault.{Fault}

@@ -1,7 +1,6 @@
 -- The methods of `kt/rt/Cells` and of `kt/rt/Out`: what a coroutine asks.
-use Rattle.std.specs.Prelude.{◌≡◌, ℕ, Bool, true, false, ◌||◌, ◌==◌, if◌then◌else◌, List, [], ◌∷◌, Option, Some, None, is_some, position, remove}
+use Rattle.std.specs.Prelude.{◌≡◌, ℕ, Bool, true, false, ◌||◌, ◌==◌, if◌then◌else◌, List, Option, Some, None, is_some, position, remove}
 use Rattle.std.specs.List.{list_any}
-use Rattle.kt_base.specs.declared.lumps.Node.{Node}
 use Rattle.kt_base.specs.declared.lumps.Lump.{Lump}
 use Rattle.kt_base.specs.declared.events.Event.{Event}
 use Rattle.kt_base.specs.declared.events.Event.TheVariants as event
@@ -9,7 +8,6 @@ use Rattle.kt_base.specs.declared.events.Fate.TheVariants as fate
 use Rattle.mach_value.specs.declared.values.Value.{Value}
 use Rattle.mach_value.specs.declared.values.Value.TheVariants as v
 use Rattle.mach_value.specs.declared.heaps.Heap.{Heap}
-use Rattle.mach_value.specs.declared.heaps.Note.{Note}
 use Rattle.mach_value.specs.Exports.{IsLump, HasNoLump}
 use Rattle.mach_rows.specs.declared.throwing.Fault.{Fault}
 use Rattle.mach_rows.specs.declared.throwing.Fault.TheVariants as fault

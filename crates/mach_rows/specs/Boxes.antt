@@ -1,5 +1,5 @@
 -- The methods of `java/lang/Integer`, `Long`, `Boolean` and `Character`.
-use Rattle.std.specs.Prelude.{ℕ, pos, ◌==◌, [], ◌∷◌}
+use Rattle.std.specs.Prelude.{pos, ◌==◌, [], ◌∷◌}
 use Rattle.std.specs.Bool.{beq}
 use Rattle.std.specs.Fmt.{signed_decimal}
 use Rattle.std.specs.Ordering.{int_eq}

@@ -1,5 +1,5 @@
 -- What a method without code does.
-use Rattle.std.specs.Prelude.{◌≡◌, ℕ, ℤ, pos, ◌%◌, ◌^◌, Bool, true, false, List, [], ◌∷◌, ◌++◌}
+use Rattle.std.specs.Prelude.{ℕ, ℤ, pos, ◌%◌, ◌^◌, Bool, true, false, List}
 use Rattle.std.specs.Prelude.{Option, Some, None, option_and_then}
 use Rattle.std.specs.Int.{w32, cast_signed}
 use Rattle.kt_base.specs.declared.lumps.Lump.{Lump}
@@ -10,7 +10,6 @@ use Rattle.mach_value.specs.declared.objects.Object.{Object}
 use Rattle.mach_value.specs.declared.objects.Object.TheVariants as o
 use Rattle.mach_value.specs.declared.heaps.Heap.{Heap}
 use Rattle.mach_value.specs.Heaps.{object_at, address_behind}
-use Rattle.mach_value.specs.Exports.{IsLump, HasNoLump}
 use Rattle.mach_rows.specs.declared.throwing.Fault.{Fault}
 use Rattle.mach_rows.specs.declared.throwing.Fault.TheVariants as fault
 use Rattle.mach_rows.specs.declared.ends.NativeEnd.{NativeEnd}

@@ -1,5 +1,5 @@
 -- One field or object more is settled.
-use Rattle.std.proofs.Common.{◌≡◌, ℕ, zero, suc, ◌+◌, ◌-◌, ◌<◌, ◌≤◌, List, [], ◌∷◌, length, drop, get_or, refl, sym, ap, ◌∙◌, arith}
+use Rattle.std.proofs.Common.{◌≡◌, ℕ, zero, suc, ◌+◌, ◌<◌, ◌≤◌, List, [], ◌∷◌, length, drop, get_or, refl, sym, ap, ◌∙◌, arith}
 use Rattle.mach_value.specs.declared.values.FieldKind.{FieldKind}
 use Rattle.mach_value.specs.declared.values.Field.{Field}
 use Rattle.mach_value.specs.declared.objects.Object.{Object}

@@ -1,5 +1,6 @@
--- Objects that came in a lump, as objects of their classes: each number in a field of reference kind goes into a new box.
-use Rattle.std.specs.Prelude.{ℕ, zero, suc, ◌+◌, Bool, true, false, ◌==◌, if◌then◌else◌, List, [], ◌∷◌, ◌++◌, drop}
+-- Objects that came in a lump, as objects of their classes: each number in a field of reference kind goes into a new
+-- box.
+use Rattle.std.specs.Prelude.{ℕ, zero, suc, ◌+◌, Bool, ◌==◌, if◌then◌else◌, List, [], ◌∷◌, ◌++◌, drop}
 use Rattle.std.specs.Prelude.{slice_get, find, unwrap_or, Option, Some, None, option_and_then}
 use Rattle.std.specs.Cmp.Lexicographic.{pointwise}
 use Rattle.mach_value.specs.declared.values.Value.{Value}

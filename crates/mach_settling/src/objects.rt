@@ -150,8 +150,10 @@ fn settle_at(
     }
 }
 
-/// Settles the objects that an import made: those from an address on. Each becomes an object of the class that it names,
-/// and each number in one of its fields of reference kind goes into a new box behind all objects.
+/// Settles the objects that an import made: those from an address on.
+///
+/// Each becomes an object of the class that it names, and each number in one of its fields of reference kind goes into a
+/// new box behind all objects.
 pub fn settle(
     alloc: Global,
     objects: &mut Objects,

@@ -16,8 +16,8 @@ pub struct Shape {
     pub number: usize,
     /// It is `java/lang/Throwable` or below it.
     pub is_throwable: bool,
-    /// The kinds of what a lump of an object of it holds: of a throwable the message first, then the fields, those of the
-    /// class above first.
+    /// The kinds of what the lump of an object of it holds: of a throwable the message first, then the fields, those of
+    /// the class above first.
     pub kinds: Items<FieldKind>,
 }
 

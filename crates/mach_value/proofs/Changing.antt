@@ -4,7 +4,6 @@ use Rattle.std.specs.Prelude.{slice_get, slice_set}
 use borrow.Author.Tests.{lt-ltb, le-ltb}
 use Rattle.mach_value.specs.declared.objects.Object.{Object}
 use Rattle.mach_value.specs.declared.accessing.Change.{Change}
-use Rattle.mach_value.specs.Heaps.{object_at}
 use Rattle.mach_value.specs.Access.{changed_by, changed_at}
 
 past : (xs : List Object) (i : ℕ) → length xs ≤ i → slice_get xs i ≡ None

@@ -1,4 +1,4 @@
-use Rattle.std.proofs.Common.{ap, ◌∙◌, ◌||◌}
+use Rattle.std.proofs.Common.{ap, ◌∙◌}
 use Rattle.mach_rows.specs.declared.sending.Sending.TheVariants as sending
 use Rattle.mach_rows.specs.declared.throwing.Fault.TheVariants as fault
 use Rattle.mach_rows.specs.Courses.{held_in, cell_in}

@@ -1,4 +1,4 @@
-use Rattle.std.proofs.Common.{get_or, refl, sym, ap, ◌∙◌, [], arith}
+use Rattle.std.proofs.Common.{get_or, refl, sym, ap, ◌∙◌, arith}
 use Rattle.mach_settling.specs.Settled.{Settling}
 use Rattle.mach_settling.proofs.Turning.{fields_turn, fields_done}
 use Rattle.mach_settling.proofs.fields.settle_fields.Goals as goal
