@@ -20,7 +20,7 @@ use Rattle.class_verify.specs.Refusals.{FailsFirst, KeepsBelow, OneKeeps}
 where_some : {A : Type 0} (o : Option A) (a : A) (P : A → Type 0) → o ≡ Some a → P a → WhereSome o P
 where_some o a P e h = subst (λ x. WhereSome x P) (sym e) h
 
-some_where : {A : Type 0} (o : Option A) (a : A) (P : A → Type 0) → o ≡ Some a → WhereSome o P → P a
+pub some_where : {A : Type 0} (o : Option A) (a : A) (P : A → Type 0) → o ≡ Some a → WhereSome o P → P a
 some_where o a P e h = subst (λ x. WhereSome x P) e h
 
 where_none : {A : Type 0} (o : Option A) (P : A → Type 0) → o ≡ None → WhereSome o P
@@ -47,7 +47,7 @@ module _ (p : Linked) (c : ℕ) (class : LinkedClass) (is : class_at p c ≡ Som
       where_some (class_at p c) class _ is
       (where_some (slice_get class.methods k) m _ e (h.0, subst (λ o. WhereSome o (λ b. BodyKeeps b at)) (sym (body_is k m e)) h.1))
 
-  keeps_to : (k at : ℕ) (m : LinkedMethod) → slice_get class.methods k ≡ Some m → Keeps p c (suc k) at → OneKeeps p c class m at
+  pub keeps_to : (k at : ℕ) (m : LinkedMethod) → slice_get class.methods k ≡ Some m → Keeps p c (suc k) at → OneKeeps p c class m at
   keeps_to k at m e h =
       let x = some_where (slice_get class.methods k) m _ e (some_where (class_at p c) class _ is h) in
       (x.0, subst (λ o. WhereSome o (λ b. BodyKeeps b at)) (body_is k m e) x.1)

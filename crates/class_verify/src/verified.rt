@@ -1,6 +1,7 @@
 //! Verified classes.
 
 ghost use Rattle.class_linked.specs.Numbers.{first_file_class};
+ghost use Rattle.class_verify.specs.Facts.{AreFine};
 ghost use Rattle.class_verify.specs.Refusals.{Names, Refuses};
 ghost use Rattle.class_verify_rules.specs.Bodies.{Body, body_at, instruction};
 ghost use Rattle.class_verify_rules.specs.Frames.{before};
@@ -53,6 +54,14 @@ impl Verified {
         each_is_typed();
         let _linked = self.linked();
     }
+
+    /// Each class of a class file stands as it may, and so does each method; each method with code begins with an
+    /// instruction, its entries and frames keep their rules, and each instruction has a frame under which it is typed.
+    pub fn keeps_rules(&self)
+        ensures { AreFine self.now }
+    {
+        let _linked = self.linked();
+    }
 }
 
 fn rejected_class(class: &LinkedClass, method: u32, offset: u32) -> VerifyError
@@ -87,6 +96,7 @@ fn rejected(linked: &Linked, refusal: Refusal) -> VerifyError
 pub fn verify(alloc: Global, linked: Linked) -> Result<Verified, VerifyError>
     ensures same { IfOk result (λ verified. verified ≡ linked) }
     ensures verified { IfOk result (λ verified. IsVerified verified) }
+    ensures fine { IfOk result (λ verified. AreFine verified) }
     ensures refused { IfErr result (Refuses linked) }
 {
     match first_refusal(alloc, &linked)? {
