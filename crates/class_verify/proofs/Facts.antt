@@ -23,7 +23,7 @@ came_of None f b e = let h : None ≡ Some b = e in cc
 came_of (Some a) f b e = record { from = a; there = refl; gives = e }
 
 module _ (p : Linked) (v : IsVerified p) (c : ℕ) (file : first_file_class ≤ c) (class : LinkedClass) (is : class_at p c ≡ Some class) where
-  method_body : LinkedMethod → Option Body
+  abbrev method_body : LinkedMethod → Option Body
   method_body m = body_of p c class m m.code
 
   found : (k : ℕ) (b : Body) → body_at p c k ≡ Some b → CameOf (slice_get class.methods k) method_body b

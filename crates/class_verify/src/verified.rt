@@ -96,7 +96,6 @@ fn rejected(linked: &Linked, refusal: Refusal) -> VerifyError
 pub fn verify(alloc: Global, linked: Linked) -> Result<Verified, VerifyError>
     ensures same { IfOk result (λ verified. verified ≡ linked) }
     ensures verified { IfOk result (λ verified. IsVerified verified) }
-    ensures fine { IfOk result (λ verified. AreFine verified) }
     ensures refused { IfErr result (Refuses linked) }
 {
     match first_refusal(alloc, &linked)? {
