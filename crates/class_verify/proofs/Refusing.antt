@@ -1,16 +1,15 @@
 -- Rules of methods and classes, one after the other.
-use Rattle.std.proofs.Common.{◌≡◌, ℕ, zero, suc, ◌+◌, ◌-◌, ◌<◌, ◌≤◌, ◌⊎◌, inl, inr, length, List, [], ◌∷◌, Option, Some, None, refl, sym, ap, subst, ◌∙◌, arith}
-use Rattle.std.specs.Prelude.{slice_get, MatchOption}
+use Rattle.std.proofs.Common.{◌≡◌, ℕ, zero, suc, ◌+◌, ◌-◌, ◌≤◌, inl, inr, length, List, Option, Some, None, sym, ap, subst, ◌∙◌, arith}
+use Rattle.std.specs.Prelude.{slice_get}
 use Rattle.std.proofs.lemmas.Bool.{cases_lt}
 use Rattle.std.proofs.lemmas.Option.{slice_get_past}
-use Rattle.class_linked.specs.Numbers.{first_file_class}
 use Rattle.class_linked.specs.declared.classes.Linked.{Linked}
 use Rattle.class_linked.specs.declared.classes.LinkedClass.{LinkedClass}
 use Rattle.class_linked.specs.declared.constants.Constant.{Constant}
 use Rattle.class_linked.specs.declared.code.LinkedCode.{LinkedCode}
 use Rattle.class_linked.specs.declared.methods.LinkedMethod.{LinkedMethod}
 use Rattle.class_verify_rules.specs.Kinds.{class_at}
-use Rattle.class_verify_rules.specs.Bodies.{Body, body_at, body_of, then_get}
+use Rattle.class_verify_rules.specs.Bodies.{body_at, body_of, then_get}
 use Rattle.class_verify_rules.specs.Typing.{WhereSome}
 use Rattle.class_verify_rules.specs.Verified.{BodyKeeps, Keeps, MethodStands, IsVerified}
 use Rattle.class_verify_methods.specs.Faults.{Least, made_body}

@@ -1,5 +1,5 @@
 -- What verified classes have, class by class, method by method, place by place.
-use Rattle.std.specs.Prelude.{◌≡◌, ℕ, ◌≤◌, Option, Some}
+use Rattle.std.specs.Prelude.{◌≡◌, ℕ, ◌≤◌, Some}
 use Rattle.jvm_code_instructions.specs.declared.instr.Instr.{Instr}
 use Rattle.class_linked.specs.Numbers.{first_file_class}
 use Rattle.class_linked.specs.declared.classes.Linked.{Linked}

@@ -1,17 +1,13 @@
 -- Where classes are refused.
-use Rattle.std.specs.Prelude.{◌≡◌, ◌≢◌, ℕ, suc, zero, ◌<◌, ◌≤◌, List, Option, Some, None, slice_get}
-use Rattle.jvm_class_types.specs.declared.flags.ClassFlags.{ClassFlags}
-use Rattle.jvm_class_types.specs.declared.flags.ClassFlags.TheVariants as class_flag
-use Rattle.jvm_class_types.specs.declared.flags.MethodFlags.TheVariants as flag
+use Rattle.std.specs.Prelude.{◌≡◌, ℕ, ◌<◌, ◌≤◌, Some}
 use Rattle.class_linked.specs.Numbers.{first_file_class}
 use Rattle.class_linked.specs.declared.classes.Linked.{Linked}
 use Rattle.class_linked.specs.declared.classes.LinkedClass.{LinkedClass}
 use Rattle.class_linked.specs.declared.methods.LinkedMethod.{LinkedMethod}
-use Rattle.class_linked.specs.declared.methods.Role.TheVariants as role
 use Rattle.class_verify_rules.specs.Kinds.{class_at}
 use Rattle.class_verify_rules.specs.Bodies.{body_of}
 use Rattle.class_verify_rules.specs.Typing.{WhereSome}
-use Rattle.class_verify_rules.specs.Verified.{BodyKeeps, ConstructorStands, IsRejected, Keeps, MethodStands}
+use Rattle.class_verify_rules.specs.Verified.{BodyKeeps, IsRejected, Keeps, MethodStands}
 use Rattle.class_verify.specs.declared.errors.VerifyError.{VerifyError}
 use Rattle.class_verify.specs.declared.errors.VerifyError.TheVariants as error
 

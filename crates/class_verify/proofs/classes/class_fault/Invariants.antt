@@ -1,4 +1,4 @@
-use Rattle.std.proofs.Common.{◌≡◌, ℕ, ◌≤◌}
+use Rattle.std.proofs.Common.{ℕ, ◌≤◌}
 use Rattle.class_verify_rules.specs.Verified.{Keeps}
 use Rattle.class_verify.proofs.classes.class_fault.Given as goal
 

@@ -1,4 +1,4 @@
-use Rattle.std.proofs.Common.{◌≡◌, ◌≤◌, ℕ, length, subst, arith}
+use Rattle.std.proofs.Common.{ℕ, subst, arith}
 use Rattle.std.specs.Prelude.{MatchOption}
 use Rattle.class_verify_rules.specs.Verified.{Keeps}
 use Rattle.class_verify.specs.Refusals.{FailsFirst}

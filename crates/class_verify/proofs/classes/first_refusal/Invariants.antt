@@ -1,4 +1,3 @@
-use Rattle.std.proofs.Common.{◌≡◌, ℕ}
 use Rattle.class_verify.specs.Refusals.{KeepsBelow}
 use Rattle.class_verify.proofs.classes.first_refusal.Given as goal
 
