@@ -1,15 +1,1 @@
-mod Meanings
-mod Faults
-mod PlainFiles
-mod WithinBounds
-mod LocalBounds
-mod Cycles
-mod Bounds
-mod FunctionRules
-mod ConstantValues
-mod ConstantRules
-mod Steps
-mod Putting
-mod Answered
-mod Tested
-mod Walking
+mod Judged

@@ -1,3 +1,1 @@
-pub mod Plain
-pub mod FileHeaders
-pub mod Judging
+pub mod Refusals

@@ -1,6 +1,7 @@
-//! The headers of a file, or the place of the first that isn't well formed.
+//! The declarations of a file, or the place of the first whose header isn't well formed.
 #![tactic(auto)]
 
 pub mod declaring;
 
-pub use declaring::{PlainDeclarations, are_plain, declare_plain};
+pub use declaring::declare;
+pub use kt_decls_headers::files::Decls;

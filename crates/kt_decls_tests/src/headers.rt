@@ -2,7 +2,7 @@
 
 use crate::trees::file;
 use kt_base::FrontErr;
-use kt_decls::{are_plain, declare_plain};
+use kt_decls::declare;
 use std::alloc::Global;
 use std::test::Fail;
 
@@ -19,11 +19,8 @@ enum Answer {
 
 fn told(alloc: Global, functions: &[&str]) -> Result<Answer, Fail> {
     let tree = file(alloc, functions)?;
-    if !are_plain(&tree) {
-        return Ok(Answer::Other);
-    }
-    match declare_plain(alloc, &tree) {
-        Ok(headers) => Ok(Answer::Fine(headers.order.len())),
+    match declare(alloc, &tree) {
+        Ok(decls) => Ok(Answer::Fine(decls.headers.order.len())),
         Err(FrontErr::Refused(refusal)) => Ok(Answer::Line(refusal.pos.line)),
         Err(FrontErr::NoMemory) => Ok(Answer::Other),
     }
